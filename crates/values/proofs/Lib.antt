@@ -1,0 +1,4 @@
+pub mod CountLaws
+pub mod PairLaws
+pub mod ReachLaws
+pub mod Sums

@@ -1,0 +1,5 @@
+pub mod Laws
+pub mod Sums
+pub mod Counts
+pub mod Pairs
+pub mod Reaches
