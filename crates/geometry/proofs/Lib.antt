@@ -1,0 +1,10 @@
+pub mod Products
+pub mod Size
+pub mod FloorLaws
+pub mod Table
+pub mod Words
+pub mod Dividends
+pub mod Divisors
+pub mod OneWay
+pub mod Within
+pub mod Overlaps

@@ -1,0 +1,4 @@
+pub mod Floor
+pub mod Turn
+pub mod Overlap
+pub mod Landed

@@ -1,0 +1,7 @@
+mod Firsts
+mod Fits
+mod Landings
+mod Numbered
+mod Propers
+mod Reached
+mod Views

@@ -1,0 +1,28 @@
+-- The edges of an axis by their numbers. Assumes nothing.
+use mathlib.Core.Path.{_≡_, refl, sym, ap, _∙_}
+use mathlib.Core.List.{List}
+use mathlib.Core.Logic.{⊎-elim}
+use Prim.Native.Nat.{ℕ, _+_, _-_, _≤_, _<_, min}
+use native.Mathlib.Omega.{arith}
+use lib.IntN.{ℤ, pos, natAbs}
+use lib.Signed.{_≤ℤ_}
+use lib.ListN.{length, getD}
+use Rattle.std.proofs.shelf.Signed.{ints}
+use Rattle.std.proofs.shelf.Tests.{cases-lt}
+use Rattle.scan.specs.Axes.{Proper, cellsOf, edgeOf}
+
+-- an edge that there is
+pub edge-at : (es : List ℤ) (i : ℕ) → i < length es → edgeOf es i ≡ getD es i (pos 0)
+edge-at es i l = let e : min i (length es - 1) ≡ i = omega arith in ap (λ k. getD es k (pos 0)) e
+
+module _ (es : List ℤ) (proper : Proper es) where
+  pub edge-within : (i : ℕ) → natAbs (edgeOf es i) ≤ 4194304
+  edge-within i = proper .within (min i (length es - 1)) (omega (arith, proper .least))
+
+  pub edge-rises : (i : ℕ) → edgeOf es i ≤ℤ edgeOf es (i + 1)
+  edge-rises i =
+      ⊎-elim
+      (λ lt. let up = proper .rises i lt in rw (edge-at es i (omega arith), edge-at es (i + 1) lt) (omega (arith, ints)))
+      (λ ge. let e : min i (length es - 1) ≡ min (i + 1) (length es - 1) = omega arith in
+         let same = ap (λ k. getD es k (pos 0)) e in omega (arith, ints))
+      (cases-lt (i + 1) (length es))

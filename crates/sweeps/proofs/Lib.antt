@@ -1,0 +1,11 @@
+pub mod Naturals
+pub mod Laid
+pub mod Gains
+pub mod Runs
+pub mod Beams
+pub mod Levels
+pub mod Blocks
+pub mod Whole
+pub mod Places
+pub mod Verdicts
+pub mod CallFacts
