@@ -10,8 +10,8 @@ use scan::listed::ListedAxisEdges;
 use scan::plan::Plan;
 use std::alloc::Global;
 use std::io;
-use sweeps::calls::back;
-use sweeps::calls::forward;
+use sweeps::backprojection::back;
+use sweeps::projection::forward;
 use sweeps::tally::tally;
 use values::count::Count;
 use values::count_value::CountValue;
@@ -109,9 +109,15 @@ fn project(rt: &impl Print, heap: Global, plan: &Plan) -> io::Result<()> {
 }
 
 fn main(rt: LibcRuntime) -> io::Result<()> {
-    println!(rt, "Four voxels of 100 units, the source 1000 from the rotation axis, the panel 2000 from the source.")?;
+    println!(
+        rt,
+        "Four voxels of 100 units, the source 1000 from the rotation axis, the panel 2000 from the source."
+    )?;
     try_step(&rt, rt.alloc(), 64)?;
-    println!(rt, "Views at steps 0 and 16: sealed. Forward from ones as Count, and back from all cells as Reach:")?;
+    println!(
+        rt,
+        "Views at steps 0 and 16: sealed. Forward from ones as Count, and back from all cells as Reach:"
+    )?;
     match planned(rt.alloc()) {
         Ok(plan) => project(&rt, rt.alloc(), &plan),
         Err(failure) => print_refusal(&rt, "The plan", failure),

@@ -4,9 +4,9 @@ use native.Mathlib.Nat.{mul-le-mul-left, mul-lt-mul-of-pos-right}
 use native.Mathlib.Omega.{arith}
 use lib.IntN.{ℤ, pos, _-ℤ_, _*ℤ_, natAbs}
 use borrow.Author.Differences.{ints}
-use Rattle.geometry.specs.Turn.{Steep}
-use Rattle.geometry.specs.Landed.{depth, slant, Placed, Reached, Beside}
+use Rattle.geometry.specs.Landed.{depth, slant}
 use Rattle.geometry.proofs.Size.{abs-times, abs-times-3, SameSide, lead-side, times-side, side-trans}
+use Rattle.geometry.proofs.Conditions.{Steep, Placed, Reached, Beside}
 
 -- where x lies beside a and y is less, x - y does
 beside-minus : (a x y : ℤ) → SameSide a x → natAbs y < natAbs x → Beside a (x -ℤ y)

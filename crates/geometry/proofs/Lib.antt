@@ -1,3 +1,4 @@
+pub mod Conditions
 pub mod Products
 pub mod Size
 pub mod FloorLaws

@@ -6,12 +6,12 @@ use lib.Signed.{_≤ℤ_, _<ℤ_}
 use borrow.Author.Differences.{ints}
 use Rattle.std.proofs.shelf.Signed.{by-ltZ}
 use Rattle.geometry.specs.Floor.{floorDiv}
-use Rattle.geometry.specs.Turn.{Steep}
-use Rattle.geometry.specs.Landed.{depth, slant, crossEdge, heightEdge, columnEdge, rowEdge, Placed, Reached, Beside}
+use Rattle.geometry.specs.Landed.{depth, slant, crossEdge, heightEdge, columnEdge, rowEdge}
 use Rattle.geometry.proofs.FloorLaws.{floor-rises, floor-falls, floor-cross, floor-cross-below}
 use Rattle.geometry.proofs.Products.{*ℤ-assoc, *ℤ--ℤ, times-up, times-down, times-left}
 use Rattle.geometry.proofs.Size.{times-side}
 use Rattle.geometry.proofs.Divisors.{depth-beside, slant-beside}
+use Rattle.geometry.proofs.Conditions.{Steep, Placed, Reached, Beside}
 
 -- m comes before n where a is above 0, and after it where a is below
 abbrev Along : ℤ → ℤ → ℤ → Type 0

@@ -9,7 +9,8 @@ use Rattle.std.proofs.shelf.Ways.{decides-below-and}
 use Rattle.geometry.specs.declared.direction.SlabAxis.{SlabAxis}
 use Rattle.geometry.specs.declared.direction.SlabAxis.the-variants.{X, Y}
 use Rattle.geometry.specs.declared.direction.Direction.{Direction}
-use Rattle.geometry.specs.Turn.{sine, sinOf, cosOf, Round, slabsBy, mainPart, sidePart, slabAxis, mainOf, sideOf, Steep}
+use Rattle.geometry.specs.Turn.{sine, sinOf, cosOf, Round, slabsBy, mainPart, sidePart, slabAxis, mainOf, sideOf}
+use Rattle.geometry.proofs.Conditions.{Steep}
 
 -- the test passes at each number below n
 abbrev allBelow : (ℕ → Bool) → ℕ → Bool

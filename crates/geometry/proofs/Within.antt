@@ -5,13 +5,13 @@ use native.Mathlib.Nat.{mul-le-mul, mul-le-mul-left, mul-le-mul-right}
 use native.Mathlib.Omega.{arith}
 use lib.IntN.{ℤ, pos, _+ℤ_, _*ℤ_, natAbs}
 use borrow.Author.Differences.{ints}
-use Rattle.geometry.specs.Turn.{Steep}
-use Rattle.geometry.specs.Landed.{depth, crossEdge, heightEdge, Placed}
+use Rattle.geometry.specs.Landed.{depth, crossEdge, heightEdge}
 use Rattle.geometry.proofs.FloorLaws.{floor-within}
 use Rattle.geometry.proofs.Size.{abs-times, abs-times-3, abs-plus}
 use Rattle.geometry.proofs.Divisors.{depth-beside}
 use Rattle.geometry.proofs.Words.{Reads}
 use Rattle.geometry.proofs.Dividends.{cross-made, height-made, column-made}
+use Rattle.geometry.proofs.Conditions.{Steep, Placed}
 
 -- a number as its own operand
 own : (x : ℤ) {A : ℕ} → natAbs x ≤ A → Reads x x A

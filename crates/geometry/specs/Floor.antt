@@ -1,6 +1,6 @@
 -- Division that rounds down.
-use Prim.Native.Nat.{ℕ, zero, suc, _/_}
-use lib.IntN.{ℤ, pos, negsuc, negℤ, _*ℤ_}
+use Prim.Native.Nat.{ℕ, zero, suc, _/_, _<_}
+use lib.IntN.{ℤ, pos, negsuc, negℤ, natAbs, _*ℤ_}
 use lib.Signed.{_≤ℤ_}
 
 -- n over a natural divisor, rounded down
@@ -23,3 +23,7 @@ AtMost k n (negsuc d) = n ≤ℤ (k *ℤ negsuc d)
 pub record Floor (n d r : ℤ) : Type 0 where
   pub low : AtMost r n d
   pub greatest : (k : ℤ) → AtMost k n d → k ≤ℤ r
+
+-- Floor division gives the greatest whole number not above the fraction, whatever the signs.
+abbrev pub Floors : Type 0
+Floors = (n d : ℤ) → 0 < natAbs d → Floor n d (floorDiv n d)

@@ -1,8 +1,6 @@
 -- Where the edges of a slab's voxels and of the detector's cells land on the plane that holds the rotation axis and lies across the slab axis.
 -- D is the distance from the source to the rotation axis, F the distance from the source to the panel, a and b the parts of the direction along and across the slab axis, and R = 16384 their unit.
-use Prim.Native.Nat.{_^_, _≤_, _<_}
-use lib.IntN.{ℤ, pos, negℤ, natAbs, _+ℤ_, _-ℤ_, _*ℤ_}
-use lib.Signed.{_<ℤ_}
+use lib.IntN.{ℤ, pos, negℤ, _+ℤ_, _-ℤ_, _*ℤ_}
 use Rattle.geometry.specs.declared.direction.SlabAxis.{SlabAxis}
 use Rattle.geometry.specs.declared.direction.SlabAxis.the-variants.{X, Y}
 use Rattle.geometry.specs.Floor.{floorDiv}
@@ -35,21 +33,3 @@ columnEdge D F a b k = floorDiv (D *ℤ pos 16384 *ℤ k) (slant F a b k)
 -- T: where the edge g of a detector row lands in a column, K the sum of the column's two edges
 unfoldable pub rowEdge : ℤ → ℤ → ℤ → ℤ → ℤ → ℤ → ℤ
 rowEdge D F a b K g = floorDiv (pos 2 *ℤ D *ℤ a *ℤ g) (slant (pos 2 *ℤ F) a b K)
-
--- a slab whose edges' sum is Q lies nearer the rotation axis than half the distance D
-pub record Placed (D Q : ℤ) : Type 0 where
-  pub some : pos 0 <ℤ D
-  pub most : natAbs D ≤ 2 ^ 24
-  pub near : natAbs Q < natAbs D
-
--- the detector's edge k lies nearer the panel's middle than the distance F
-pub record Reached (F k : ℤ) : Type 0 where
-  pub some : pos 0 <ℤ F
-  pub most : natAbs F ≤ 2 ^ 26
-  pub near : natAbs k < natAbs F
-
--- x is not 0, and lies on the side of zero on which a does
-pub record Beside (a x : ℤ) : Type 0 where
-  pub apart : 0 < natAbs x
-  pub above : pos 0 <ℤ a → pos 0 <ℤ x
-  pub below : a <ℤ pos 0 → x <ℤ pos 0

@@ -62,9 +62,3 @@ mainOf q = mainPart (slabsBy (sinOf q) (cosOf q)) (sinOf q) (cosOf q)
 -- the part b of a step, across its slab axis
 unfoldable pub sideOf : ℕ → ℤ
 sideOf q = sidePart (slabsBy (sinOf q) (cosOf q)) (sinOf q) (cosOf q)
-
--- what every direction keeps: a lies between 11585 and 16384 in size, and b is no greater than a
-pub record Steep (a b : ℤ) : Type 0 where
-  pub least : 11585 ≤ natAbs a
-  pub most : natAbs a ≤ 16384
-  pub side : natAbs b ≤ natAbs a

@@ -2,7 +2,7 @@
 ghost use Prim.Native.Nat.{_≤_};
 ghost use lib.IntN.{natAbs};
 
-// Where an edge of an axis lies, in the customer's unit.
+// Where an edge of an axis lies, in the unit that the user picks.
 #[derive(Clone, Copy)]
 pub struct Edge {
     pub at: i64,

@@ -1,9 +1,9 @@
 -- Every plan fits. Assumes nothing.
-use mathlib.Core.Path.{_≡_, refl, sym, ap, _∙_}
+use mathlib.Core.Path.{_≡_, ap}
 use mathlib.Core.List.{List, [], _∷_}
-use Prim.Native.Nat.{ℕ, zero, suc, _+_, _^_, _≤_, _<_}
+use Prim.Native.Nat.{ℕ, zero, suc, _<_}
 use native.Mathlib.Omega.{arith}
-use lib.IntN.{ℤ, pos}
+use lib.IntN.{ℤ}
 use lib.ListN.{length, getD}
 use Rattle.std.specs.Of.Vec.{vec-items}
 use Rattle.std.proofs.shelf.Signed.{ints}
@@ -46,7 +46,7 @@ fitted plan =
       near = plan .layout .near;
       reaches = plan .layout .reaches;
       steps = step-below (vec-items (plan .views));
-      views = omega (arith, views-length (plan .views), plan .few)
+      views = omega (arith, views-length (plan .views), plan .few);
     }
 
 -- the same direction lands the same

@@ -1,19 +1,18 @@
 -- The edges of a scan that fits land soundly from every direction. Assumes nothing.
-use mathlib.Core.Path.{_≡_, refl, sym, ap, _∙_}
 use mathlib.Core.List.{List, [], _∷_}
-use mathlib.Core.Logic.{_⊎_, inl, inr}
+use mathlib.Core.Logic.{inl, inr}
 use Prim.Native.Nat.{ℕ, zero, suc, _+_, _-_, _*_, _/_, _%_, _^_, _≤_, _<_, min, max}
 use native.Mathlib.Nat.{mul-le-mul}
 use native.Mathlib.Omega.{arith}
-use lib.IntN.{ℤ, pos, natAbs, _+ℤ_, _-ℤ_, _*ℤ_}
+use lib.IntN.{ℤ, pos, natAbs, _*ℤ_}
 use lib.Signed.{_≤ℤ_, _<ℤ_}
 use lib.ListN.{length, getD}
 use Rattle.std.proofs.shelf.Signed.{ints, by-ltZ}
 use Rattle.std.specs.Iters.{folded}
 use Rattle.geometry.specs.declared.direction.SlabAxis.{SlabAxis}
 use Rattle.geometry.specs.declared.direction.SlabAxis.the-variants.{X, Y}
-use Rattle.geometry.specs.Landed.{slabSum, Placed, Reached}
-use Rattle.geometry.specs.Turn.{Steep, slabAxis, mainOf, sideOf}
+use Rattle.geometry.specs.Landed.{slabSum}
+use Rattle.geometry.specs.Turn.{slabAxis, mainOf, sideOf}
 use Rattle.geometry.proofs.Size.{abs-times, abs-plus, abs-minus}
 use Rattle.geometry.proofs.Table.{all-steep}
 use Rattle.geometry.proofs.Divisors.{depth-beside, slant-beside}
@@ -25,6 +24,8 @@ use Rattle.scan.specs.Landing.{Landing, Sound, Counted, weight, crossOverlap, 
 use Rattle.scan.specs.Plans.{Scan, Fitted, greatest, slabEdges, crossEdges, slabMiddle, columnMiddle, lowOf, highOf, cellOf, landingOf, landing, stepOf}
 use Rattle.scan.specs.Lands.{Divides, Lands}
 use Rattle.scan.proofs.Numbered.{edge-within, edge-rises}
+use Rattle.geometry.proofs.Conditions.{Placed, Reached, Steep}
+use Rattle.geometry.proofs.FloorLaws.{floor-is}
 
 -- no edge lies farther out than the greatest
 fold-most : (m : ℕ) (es : List ℤ) → m ≤ folded (λ most e. max most (natAbs e)) m es
@@ -67,7 +68,7 @@ module _ (scan : Scan) (fitted : Fitted scan) (along : SlabAxis) (a b : ℤ) (st
       record {
         some = omega (arith, ints, fitted .source-least);
         most = omega (arith, ints, fitted .source-least, fitted .source-most);
-        near = omega (arith, middle-size j, slab-near (cellOf (slabEdges scan along) j), slab-near (cellOf (slabEdges scan along) j + 1))
+        near = omega (arith, middle-size j, slab-near (cellOf (slabEdges scan along) j), slab-near (cellOf (slabEdges scan along) j + 1));
       }
 
   middle-within : (j : ℕ) → natAbs (slabMiddle scan along j) ≤ 8388608
@@ -83,7 +84,7 @@ module _ (scan : Scan) (fitted : Fitted scan) (along : SlabAxis) (a b : ℤ) (st
       record {
         some = omega (arith, ints, fitted .source-least, fitted .panel-least);
         most = omega (arith, ints, fitted .source-least, fitted .panel-least, fitted .panel-most);
-        near = column-near k
+        near = column-near k;
       }
 
   middle-reached : (k : ℕ) → Reached (pos 2 *ℤ scan .panel) (columnMiddle scan k)
@@ -95,7 +96,7 @@ module _ (scan : Scan) (fitted : Fitted scan) (along : SlabAxis) (a b : ℤ) (st
       record {
         some = omega (arith, ints, r .some);
         most = omega (arith, r .some, fitted .panel-most, fitted .panel-least, fitted .source-least, ints);
-        near = omega (arith, abs-plus low high, column-near (cellOf (scan .column) k), column-near (cellOf (scan .column) k + 1))
+        near = omega (arith, abs-plus low high, column-near (cellOf (scan .column) k), column-near (cellOf (scan .column) k + 1));
       }
 
   positive : pos 0 <ℤ scan .source
@@ -107,12 +108,12 @@ module _ (scan : Scan) (fitted : Fitted scan) (along : SlabAxis) (a b : ℤ) (st
       record {
         slab-divisor = λ j. depth-beside (scan .source) a b (slabMiddle scan along j) (placed j) steep .apart;
         cross-dividend = λ j i.
-          cross-dividend (scan .source) a b (slabMiddle scan along j) (edgeOf (crossEdges scan along) i) far steep (middle-within j) (edge-within _ crosses-proper i);
+            cross-dividend (scan .source) a b (slabMiddle scan along j) (edgeOf (crossEdges scan along) i) far steep (middle-within j) (edge-within _ crosses-proper i);
         height-dividend = λ l. omega (arith, height-dividend (scan .source) a b (edgeOf (scan .z) l) far steep (edge-within (scan .z) (fitted .z) l));
         column-divisor = λ k. slant-beside (scan .panel) a b (edgeOf (scan .column) k) (reached k) steep .apart;
         column-dividend = λ k. omega (arith, column-dividend (scan .source) (edgeOf (scan .column) k) far (edge-within (scan .column) (fitted .column) k));
         row-divisor = λ k. slant-beside (pos 2 *ℤ scan .panel) a b (columnMiddle scan k) (middle-reached k) steep .apart;
-        row-dividend = λ m. omega (arith, height-dividend (scan .source) a b (edgeOf (scan .row) m) far steep (edge-within (scan .row) (fitted .row) m))
+        row-dividend = λ m. omega (arith, height-dividend (scan .source) a b (edgeOf (scan .row) m) far steep (edge-within (scan .row) (fitted .row) m));
       }
 
   pub S-rises : pos 0 <ℤ a → (k : ℕ) → landingOf scan along a b .S k ≤ℤ landingOf scan along a b .S (k + 1)
@@ -138,10 +139,10 @@ module _ (scan : Scan) (fitted : Fitted scan) (along : SlabAxis) (a b : ℤ) (st
         U-rises = λ j i. cross-rises D a b (Q j) (placed j) steep _ _ (edge-rises _ crosses-proper i);
         W-rises = λ j l. height-rises D a b (Q j) (placed j) steep _ _ (edge-rises (scan .z) (fitted .z) l);
         T-rises = λ k m.
-          row-rises D (scan .panel) a b (columnMiddle scan k) positive (middle-reached k) steep _ _ (edge-rises (scan .row) (fitted .row) m);
+            row-rises D (scan .panel) a b (columnMiddle scan k) positive (middle-reached k) steep _ _ (edge-rises (scan .row) (fitted .row) m);
         S-one-way = by-ltZ (pos 0) a (λ u. inl (S-rises u)) (λ v. inr (S-falls (omega (arith, ints, steep .least))));
         U-within = λ j i. omega (arith, cross-within D a b (Q j) (placed j) steep (edgeOf (crossEdges scan along) i) (edge-within _ crosses-proper i) (middle-within j));
-        W-within = λ j l. omega (arith, height-within D a b (Q j) (placed j) steep (edgeOf (scan .z) l) (edge-within (scan .z) (fitted .z) l))
+        W-within = λ j l. omega (arith, height-within D a b (Q j) (placed j) steep (edgeOf (scan .z) l) (edge-within (scan .z) (fitted .z) l));
       }
 
 -- the overlaps and the weights of a view that lands soundly
@@ -169,8 +170,9 @@ lands scan fitted v =
     let s = sound scan fitted (slabAxis q) (mainOf q) (sideOf q) steep in
     record {
       sound = s;
+      floors = floor-is;
       divides = divides scan fitted (slabAxis q) (mainOf q) (sideOf q) steep;
       S-rises = S-rises scan fitted (slabAxis q) (mainOf q) (sideOf q) steep;
       S-falls = S-falls scan fitted (slabAxis q) (mainOf q) (sideOf q) steep;
-      light = light (landing scan v) s
+      light = light (landing scan v) s;
     }

@@ -1,7 +1,7 @@
-mod Firsts
-mod Fits
-mod Landings
-mod Numbered
-mod Propers
-mod Reached
-mod Views
+pub mod Firsts
+pub mod Fits
+pub mod Landings
+pub mod Numbered
+pub mod Propers
+pub mod Reached
+pub mod Views

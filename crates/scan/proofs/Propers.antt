@@ -1,6 +1,6 @@
 -- Edges that pass every check are those of an axis. Assumes nothing.
-use mathlib.Core.Path.{_≡_, refl, sym, ap, _∙_, subst}
-use mathlib.Core.Bool.{Bool, true, false, cond}
+use mathlib.Core.Path.{_≡_, refl}
+use mathlib.Core.Bool.{Bool, false}
 use mathlib.Core.List.{List}
 use Prim.Native.Nat.{ℕ, _+_, _-_, _≤_, _<_}
 use native.Mathlib.Omega.{arith}
@@ -15,7 +15,7 @@ use Rattle.std.specs.Options.{orOther, mapped}
 use Rattle.std.specs.declared.option.Option.{Option}
 use Rattle.std.specs.declared.option.Option.the-variants.{None, Some}
 use Rattle.scan.specs.Axes.{Proper, Rises, Within, evenEdge, evenEdges}
-use Rattle.scan.specs.Checks.{edgesCheck, evenCheck, listedCheck, countCheck}
+use Rattle.scan.specs.Checks.{firstOutside, firstNotRising, edgesCheck, countCheck}
 use Rattle.scan.proofs.Firsts.{or-none, cond-none, first-none}
 
 pub mapped-none : {X Y : Type 0} (f : X → Y) (o : Option X) → mapped f o ≡ None → o ≡ None
@@ -29,15 +29,19 @@ not-le a b e = grind (arith, ints)
 module _ (n : ℕ) (edge : ℕ → ℤ) (es : List ℤ) (long : length es ≡ n) (same : (i : ℕ) → i < n → getD es i (pos 0) ≡ edge i) (passed : edgesCheck n edge ≡ None) where
   pub within : Within es
   within i l =
-      let none = mapped-none _ _ (or-none _ _ passed .0) in
-      let h = ltb-false 4194304 (natAbs (edge i)) (first-none _ n none i (omega arith)) in
-      rw (same i (omega arith)) h
+      let here : i < n = omega arith in
+      let test : ℕ → Bool = λ k. ltb 4194304 (natAbs (edge k)) in
+      let none : firstOutside 4194304 n edge ≡ None = mapped-none _ _ (or-none _ _ passed .0) in
+      rw (same i here) (ltb-false 4194304 (natAbs (edge i)) (first-none test n none i here))
 
   pub rises : Rises es
   rises i l =
-      let none = mapped-none _ _ (or-none _ _ passed .1) in
-      let h = not-le (edge i) (edge (i + 1)) (first-none _ (n - 1) none i (omega arith)) in
-      rw (same i (omega arith), same (i + 1) (omega arith)) h
+      let here : i < n = omega arith in
+      let next : i + 1 < n = omega arith in
+      let cell : i < n - 1 = omega arith in
+      let test : ℕ → Bool = λ k. leZ (edge (k + 1)) (edge k) in
+      let none : firstNotRising (n - 1) edge ≡ None = mapped-none _ _ (or-none _ _ passed .1) in
+      rw (same i here, same (i + 1) next) (not-le (edge i) (edge (i + 1)) (first-none test (n - 1) none i cell))
 
 pub even-length : (first pitch : ℤ) (n : ℕ) → length (evenEdges first pitch n) ≡ n + 1
 even-length first pitch n = length-map-counting (evenEdge first pitch) 0 (n + 1)
@@ -67,5 +71,5 @@ listed-proper es vs e counted passed =
       least = n .0;
       most = n .1;
       rises = rises (length es) (λ i. getD es i (pos 0)) es refl (λ i l. refl) passed;
-      within = within (length es) (λ i. getD es i (pos 0)) es refl (λ i l. refl) passed
+      within = within (length es) (λ i. getD es i (pos 0)) es refl (λ i l. refl) passed;
     })

@@ -1,4 +1,5 @@
 -- What is checked of the edges of an axis, in which order, and the refusal that follows.
+use mathlib.Core.Path.{_≡_}
 use mathlib.Core.Bool.{Bool, cond, _||_}
 use mathlib.Core.List.{List}
 use Prim.Native.Nat.{ℕ, zero, suc, _+_, _-_}
@@ -9,9 +10,24 @@ use lib.ListN.{length, getD}
 use Rattle.std.specs.Options.{orOther, mapped}
 use Rattle.std.specs.declared.option.Option.{Option}
 use Rattle.std.specs.declared.option.Option.the-variants.{None, Some}
+use Rattle.std.specs.declared.result.Result.{Result}
+use Rattle.std.specs.declared.result.Result.the-variants.{Ok, Err}
 use Rattle.scan.specs.Axes.{evenEdge}
+use Rattle.scan.specs.declared.failure.Failure.{Failure}
+use Rattle.scan.specs.declared.failure.Failure.the-variants.{Refused, Memory}
 use Rattle.scan.specs.declared.refusal.Refusal.{Refusal}
 use Rattle.scan.specs.declared.refusal.Refusal.the-variants.{Count, NotRising, OutOfRange}
+
+-- What a call answers that may be refused: a value of which P holds where the check finds nothing, and else what it finds.
+abbrev pub Verdict : {A : Type 0} → Option Refusal → (A → Type 0) → Result A Refusal → Type 0
+Verdict check P (Ok value) = (check ≡ None) × P value
+Verdict check P (Err refusal) = check ≡ Some refusal
+
+-- The same of a call that may find no memory, and only where the check finds nothing.
+abbrev pub Outcome : {A : Type 0} → Option Refusal → (A → Type 0) → Result A Failure → Type 0
+Outcome check P (Ok value) = (check ≡ None) × P value
+Outcome check P (Err (Refused refusal)) = check ≡ Some refusal
+Outcome check P (Err Memory) = check ≡ None
 
 -- A refusal where a condition holds.
 abbrev pub refusedWhere : Bool → Refusal → Option Refusal

@@ -3,6 +3,7 @@ use Prim.Native.Nat.{ℕ, _+_, _*_, _^_, _≤_, _<_}
 use lib.IntN.{ℤ, pos, natAbs, _+ℤ_, _*ℤ_}
 use lib.Signed.{_≤ℤ_, _<ℤ_}
 use Rattle.geometry.specs.declared.direction.SlabAxis.{SlabAxis}
+use Rattle.geometry.specs.Floor.{Floors}
 use Rattle.geometry.specs.Landed.{depth, slant}
 use Rattle.geometry.specs.Turn.{slabAxis, mainOf, sideOf}
 use Rattle.scan.specs.Axes.{edgeOf}
@@ -19,9 +20,10 @@ pub record Divides (scan : Scan) (along : SlabAxis) (a b : ℤ) : Type 0 where
   pub row-divisor : (k : ℕ) → 0 < natAbs (slant (pos 2 *ℤ scan .panel) a b (columnMiddle scan k))
   pub row-dividend : (m : ℕ) → natAbs (pos 2 *ℤ scan .source *ℤ a *ℤ edgeOf (scan .row) m) ≤ 2 ^ 62
 
--- A view lands soundly, its columns run the way that the central ray points, and every weight is below 2^52.
+-- A view lands soundly, each edge rounded down, its columns run the way that the central ray points, and every weight is below 2^52.
 pub record Lands (scan : Scan) (v : ℕ) : Type 0 where
   pub sound : Sound (landing scan v)
+  pub floors : Floors
   pub divides : Divides scan (slabAxis (stepOf scan v)) (mainOf (stepOf scan v)) (sideOf (stepOf scan v))
   pub S-rises : pos 0 <ℤ mainOf (stepOf scan v) → (k : ℕ) → landing scan v .S k ≤ℤ landing scan v .S (k + 1)
   pub S-falls : mainOf (stepOf scan v) <ℤ pos 0 → (k : ℕ) → landing scan v .S (k + 1) ≤ℤ landing scan v .S k

@@ -23,7 +23,7 @@ scanOf layout steps =
       z = vec-items (layout .z .edges);
       column = vec-items (layout .column .edges);
       row = vec-items (layout .row .edges);
-      steps = steps
+      steps = steps;
     }
 
 -- The scan of a draft.

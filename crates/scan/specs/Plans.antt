@@ -1,10 +1,10 @@
 -- What a draft and a plan say of a scan, what is checked of it, and where the edges of its views land.
-use mathlib.Core.Bool.{cond, _||_}
+use mathlib.Core.Bool.{_||_}
 use mathlib.Core.List.{List, [], _∷_, _++_}
-use Prim.Native.Nat.{ℕ, zero, suc, _+_, _-_, _*_, _^_, _≤_, _<_, min, max}
-use lib.Dec.{leb, ltb}
+use Prim.Native.Nat.{ℕ, _+_, _-_, _*_, _^_, _≤_, _<_, min, max}
+use lib.Dec.{leb}
 use lib.IntN.{ℤ, pos, natAbs, _+ℤ_}
-use lib.Signed.{_≤ℤ_, ltZ, leZ}
+use lib.Signed.{_≤ℤ_, ltZ}
 use lib.ListN.{length, getD}
 use Rattle.std.specs.Iters.{folded}
 use Rattle.std.specs.Options.{orOther, mapped}
@@ -45,7 +45,7 @@ withView scan step =
       z = scan .z;
       column = scan .column;
       row = scan .row;
-      steps = scan .steps ++ (step ∷ [])
+      steps = scan .steps ++ (step ∷ []);
     }
 
 -- How far the farthest of some edges lies from the middle.
@@ -147,7 +147,7 @@ landingOf scan along a b =
       U = λ j i. crossEdge (scan .source) a b (slabMiddle scan along j) (edgeOf (crossEdges scan along) i);
       W = λ j l. heightEdge (scan .source) a (slabMiddle scan along j) (edgeOf (scan .z) l);
       S = λ k. columnEdge (scan .source) (scan .panel) a b (edgeOf (scan .column) k);
-      T = λ k m. rowEdge (scan .source) (scan .panel) a b (columnMiddle scan k) (edgeOf (scan .row) m)
+      T = λ k m. rowEdge (scan .source) (scan .panel) a b (columnMiddle scan k) (edgeOf (scan .row) m);
     }
 
 -- The step of a view.

@@ -1,7 +1,6 @@
 // A scan to which views can still be added.
 ghost use Prim.Native.Nat.{_≤_};
 ghost use Rattle.std.specs.Of.Vec.{vec-len};
-
 use crate::layout::Layout;
 use geometry::step::Step;
 

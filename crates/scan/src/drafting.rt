@@ -2,12 +2,10 @@
 ghost use mathlib.Core.Path.{_≡_};
 ghost use lib.IntN.{natAbs};
 ghost use lib.ListN.{length};
-ghost use Rattle.std.specs.declared.option.Option.the-variants.{None, Some};
 ghost use Rattle.std.specs.declared.result.Result.the-variants.{Ok, Err};
-ghost use Rattle.scan.specs.declared.failure.Failure.the-variants.{Refused, Memory};
-ghost use Rattle.scan.specs.Plans.{greatest, firstBeyond, distancesCheck, reachCheck, draftCheck, viewCheck, unviewed, withView};
+ghost use Rattle.scan.specs.Checks.{Verdict, Outcome};
+ghost use Rattle.scan.specs.Plans.{greatest, firstBeyond, distancesCheck, reachCheck, draftCheck, viewCheck, unviewed, withView, Fitted};
 ghost use Rattle.scan.specs.Meanings.{draftOf, planOf};
-
 use crate::axis::Axis;
 use crate::draft::Draft;
 use crate::failure::Failure;
@@ -23,7 +21,7 @@ use geometry::step::Step;
 use std::alloc::Global;
 
 fn distances_of(source: i32, panel: i32) -> Result<Distances, Refusal>
-    ensures { λ r. ⌜ elim r [ Ok d ↦ (distancesCheck source panel ≡ None) × (d .source ≡ source) × (d .panel ≡ panel) | Err e ↦ distancesCheck source panel ≡ Some e ] ⌝ }
+    ensures { λ r. ⌜ Verdict (distancesCheck source panel) (λ d. (d .source ≡ source) × (d .panel ≡ panel)) r ⌝ }
 {
     let source = source as i64;
     let panel = panel as i64;
@@ -60,22 +58,34 @@ fn first_beyond<A: Axis>(axis: &A, limit: u64) -> Option<usize>
 }
 
 // Refuses what the distances do not reach.
-fn check_reach<X: Axis, Y: Axis, C: Axis>(distances: Distances, x: &X, y: &Y, column: &C) -> Result<(), Refusal>
-    ensures { λ r. ⌜ elim r [ Ok _ ↦ reachCheck (distances .source) (distances .panel) (X·Axis .edges (now (x .entry))) (Y·Axis .edges (now (y .entry))) (C·Axis .edges (now (column .entry))) ≡ None | Err e ↦ reachCheck (distances .source) (distances .panel) (X·Axis .edges (now (x .entry))) (Y·Axis .edges (now (y .entry))) (C·Axis .edges (now (column .entry))) ≡ Some e ] ⌝ }
+fn check_reach<X: Axis, Y: Axis, C: Axis>(
+    distances: Distances,
+    x: &X,
+    y: &Y,
+    column: &C,
+) -> Result<(), Refusal>
+    ensures { λ r. ⌜ Verdict (reachCheck (distances .source) (distances .panel) (X·Axis .edges (now (x .entry))) (Y·Axis .edges (now (y .entry))) (C·Axis .edges (now (column .entry)))) (λ _. Unit {0}) r ⌝ }
 {
     let widest = farthest(x).max(farthest(y));
     if distances.source.unsigned_abs() <= 2 * widest as u64 {
-        return Err(Refusal::SourceTooNear { source: distances.source, widest: widest as i64 });
+        return Err(Refusal::SourceTooNear {
+            source: distances.source,
+            widest: widest as i64,
+        });
     }
     if let Some(edge) = first_beyond(column, distances.panel.unsigned_abs()) {
-        return Err(Refusal::ColumnBeyond { edge, at: column.edge(edge) as i64, panel: distances.panel });
+        return Err(Refusal::ColumnBeyond {
+            edge,
+            at: column.edge(edge) as i64,
+            panel: distances.panel,
+        });
     }
     Ok(())
 }
 
 // Refuses a step that there is not, and then a view more than a draft may have.
 fn check_view(views: usize, step: i32) -> Result<Step, Refusal>
-    ensures { λ r. ⌜ elim r [ Ok s ↦ (viewCheck views step ≡ None) × (s .number ≡ natAbs step) | Err e ↦ viewCheck views step ≡ Some e ] ⌝ }
+    ensures { λ r. ⌜ Verdict (viewCheck views step) (λ s. s .number ≡ natAbs step) r ⌝ }
 {
     if step < 0 || 63 < step {
         return Err(Refusal::StepOutOfRange { step: step as i64 });
@@ -83,11 +93,13 @@ fn check_view(views: usize, step: i32) -> Result<Step, Refusal>
     if 1024 <= views {
         return Err(Refusal::DraftFull { views });
     }
-    Ok(Step { number: step as usize })
+    Ok(Step {
+        number: step as usize,
+    })
 }
 
 impl Draft {
-    // A draft with no views, of a source and a panel so far away, a volume and a panel of these axes.
+    // A draft with no views: how far the source and the panel stand, and the axes of the volume and of the panel.
     pub fn new<X: Axis, Y: Axis, Z: Axis, C: Axis, R: Axis>(
         heap: Global,
         source: i32,
@@ -98,7 +110,7 @@ impl Draft {
         column: &C,
         row: &R,
     ) -> Result<Draft, Failure>
-        ensures { λ r. ⌜ elim r [ Ok d ↦ (draftCheck source panel (X·Axis .edges (now (x .entry))) (Y·Axis .edges (now (y .entry))) (C·Axis .edges (now (column .entry))) ≡ None) × (draftOf d ≡ unviewed source panel (X·Axis .edges (now (x .entry))) (Y·Axis .edges (now (y .entry))) (Z·Axis .edges (now (z .entry))) (C·Axis .edges (now (column .entry))) (R·Axis .edges (now (row .entry)))) | Err (Refused e) ↦ draftCheck source panel (X·Axis .edges (now (x .entry))) (Y·Axis .edges (now (y .entry))) (C·Axis .edges (now (column .entry))) ≡ Some e | Err Memory ↦ draftCheck source panel (X·Axis .edges (now (x .entry))) (Y·Axis .edges (now (y .entry))) (C·Axis .edges (now (column .entry))) ≡ None ] ⌝ }
+        ensures { λ r. ⌜ Outcome (draftCheck source panel (X·Axis .edges (now (x .entry))) (Y·Axis .edges (now (y .entry))) (C·Axis .edges (now (column .entry)))) (λ d. draftOf d ≡ unviewed source panel (X·Axis .edges (now (x .entry))) (Y·Axis .edges (now (y .entry))) (Z·Axis .edges (now (z .entry))) (C·Axis .edges (now (column .entry))) (R·Axis .edges (now (row .entry)))) r ⌝ }
     {
         let distances = distances_of(source, panel)?;
         check_reach(distances, x, y, column)?;
@@ -107,12 +119,23 @@ impl Draft {
         let z = ListedAxis::copy_of(heap, z)?;
         let column = ListedAxis::copy_of(heap, column)?;
         let row = ListedAxis::copy_of(heap, row)?;
-        Ok(Draft { layout: Layout { distances, x, y, z, column, row }, views: Vec::new(heap) })
+        Ok(Draft {
+            layout: Layout {
+                distances,
+                x,
+                y,
+                z,
+                column,
+                row,
+            },
+            views: Vec::new(heap),
+        })
     }
 
     // Adds a view from a step of the turn, and says its number.
     pub fn add_view(&mut self, step: i32) -> Result<usize, Failure>
-        ensures { λ r. ⌜ elim r [ Ok n ↦ (viewCheck (length (draftOf (now (self .entry)) .steps)) step ≡ None) × (n ≡ length (draftOf (now (self .entry)) .steps)) × (draftOf (now (self .exit)) ≡ withView (draftOf (now (self .entry))) (natAbs step)) | Err (Refused e) ↦ (viewCheck (length (draftOf (now (self .entry)) .steps)) step ≡ Some e) × (draftOf (now (self .exit)) ≡ draftOf (now (self .entry))) | Err Memory ↦ (viewCheck (length (draftOf (now (self .entry)) .steps)) step ≡ None) × (draftOf (now (self .exit)) ≡ draftOf (now (self .entry))) ] ⌝ }
+        ensures value { λ r. ⌜ Outcome (viewCheck (length (draftOf (now (self .entry)) .steps)) step) (λ n. n ≡ length (draftOf (now (self .entry)) .steps)) r ⌝ }
+        ensures after { λ r. ⌜ draftOf (now (self .exit)) ≡ elim r [ Ok n ↦ withView (draftOf (now (self .entry))) (natAbs step) | Err e ↦ draftOf (now (self .entry)) ] ⌝ }
     {
         let views = self.views.len();
         let step = check_view(views, step)?;
@@ -129,7 +152,8 @@ impl Draft {
 
     // The plan of the scan as it stands.
     pub fn seal(self) -> Plan
-        ensures { λ r. ⌜ planOf r ≡ draftOf self ⌝ }
+        ensures holds { λ r. ⌜ planOf r ≡ draftOf self ⌝ }
+        ensures fitted { λ r. ⌜ Fitted (planOf r) ⌝ }
     {
         let Draft { layout, views } = self;
         Plan { layout, views }

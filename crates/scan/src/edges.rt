@@ -4,10 +4,7 @@ ghost use mathlib.Core.Path.{_≡_};
 ghost use Prim.Native.Nat.{ℕ, _-_, _<_};
 ghost use lib.IntN.{ℤ};
 ghost use Rattle.std.specs.Slices.{found};
-ghost use Rattle.std.specs.declared.option.Option.the-variants.{None, Some};
-ghost use Rattle.std.specs.declared.result.Result.the-variants.{Ok, Err};
-ghost use Rattle.scan.specs.Checks.{countCheck, firstOutside, firstNotRising, edgesCheck};
-
+ghost use Rattle.scan.specs.Checks.{Verdict, countCheck, firstOutside, firstNotRising, edgesCheck};
 use crate::refusal::Refusal;
 
 // Edges by number, of which nothing is known yet.
@@ -26,9 +23,13 @@ pub(crate) trait Edges {
 
 // Refuses a count outside its limits.
 pub(crate) fn check_count(found: usize, least: usize, most: usize) -> Result<(), Refusal>
-    ensures { λ r. ⌜ elim r [ Ok _ ↦ countCheck found least most ≡ None | Err e ↦ countCheck found least most ≡ Some e ] ⌝ }
+    ensures { λ r. ⌜ Verdict (countCheck found least most) (λ _. Unit {0}) r ⌝ }
 {
-    if found < least || most < found { Err(Refusal::Count { found, least, most }) } else { Ok(()) }
+    if found < least || most < found {
+        Err(Refusal::Count { found, least, most })
+    } else {
+        Ok(())
+    }
 }
 
 // The first edge more than the limit from the middle.
@@ -60,13 +61,20 @@ fn first_not_rising<E: Edges>(edges: &E, cells: usize) -> Option<usize>
 
 // Refuses edges that lie out of range, and then those that do not rise.
 pub(crate) fn check_edges<E: Edges>(edges: &E) -> Result<(), Refusal>
-    ensures { λ r. ⌜ elim r [ Ok _ ↦ edgesCheck (count (now (edges .entry))) (at (now (edges .entry))) ≡ None | Err e ↦ edgesCheck (count (now (edges .entry))) (at (now (edges .entry))) ≡ Some e ] ⌝ }
+    ensures { λ r. ⌜ Verdict (edgesCheck (count (now (edges .entry))) (at (now (edges .entry)))) (λ _. Unit {0}) r ⌝ }
 {
     if let Some(edge) = first_outside(edges, 4_194_304) {
-        return Err(Refusal::OutOfRange { edge, at: edges.get(edge) });
+        return Err(Refusal::OutOfRange {
+            edge,
+            at: edges.get(edge),
+        });
     }
     if let Some(i) = first_not_rising(edges, edges.len().saturating_sub(1)) {
-        return Err(Refusal::NotRising { edge: i + 1, before: edges.get(i), at: edges.get(i + 1) });
+        return Err(Refusal::NotRising {
+            edge: i + 1,
+            before: edges.get(i),
+            at: edges.get(i + 1),
+        });
     }
     Ok(())
 }

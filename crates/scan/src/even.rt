@@ -1,16 +1,12 @@
 // An axis whose cells are all as wide.
-ghost use denote.Ref.{now};
 ghost use mathlib.Core.Path.{_≡_};
 ghost use Prim.Native.Nat.{_+_, _≤_};
-ghost use Rattle.std.specs.declared.option.Option.the-variants.{None, Some};
-ghost use Rattle.std.specs.declared.result.Result.the-variants.{Ok, Err};
 ghost use Rattle.scan.specs.Axes.{Rises, Within, evenEdge, evenEdges};
-ghost use Rattle.scan.specs.Checks.{evenCheck};
-
+ghost use Rattle.scan.specs.Checks.{Verdict, evenCheck};
 use crate::axis::Axis;
+use crate::edges::Edges;
 use crate::edges::check_count;
 use crate::edges::check_edges;
-use crate::edges::Edges;
 use crate::refusal::Refusal;
 
 // Edges one pitch apart, of few enough cells.
@@ -47,10 +43,14 @@ pub struct EvenAxis {
 impl EvenAxis {
     // The axis of cells from `first` up, each as wide as `pitch`.
     pub fn new(first: i32, pitch: i32, cells: usize) -> Result<EvenAxis, Refusal>
-        ensures { λ r. ⌜ elim r [ Ok a ↦ (evenCheck first pitch cells ≡ None) × (evenEdges (a .spaced .first) (a .spaced .pitch) (a .spaced .cells) ≡ evenEdges first pitch cells) | Err e ↦ evenCheck first pitch cells ≡ Some e ] ⌝ }
+        ensures { λ r. ⌜ Verdict (evenCheck first pitch cells) (λ a. evenEdges (a .spaced .first) (a .spaced .pitch) (a .spaced .cells) ≡ evenEdges first pitch cells) r ⌝ }
     {
         check_count(cells, 1, 512)?;
-        let spaced = Spaced { first, pitch, cells };
+        let spaced = Spaced {
+            first,
+            pitch,
+            cells,
+        };
         check_edges(&spaced)?;
         Ok(EvenAxis { spaced })
     }

@@ -1,11 +1,10 @@
 // Why something was not made: it was refused, or there was no memory for it.
 ghost use mathlib.Core.Path.{_≡_};
 ghost use Rattle.scan.specs.declared.failure.Failure.the-variants.{Refused as Refusing, Memory};
-
 use crate::refusal::Refusal;
 use crate::refusal::RefusalDebug;
-use crate::refusal::RefusalPartialEq;
 use crate::refusal::RefusalEq;
+use crate::refusal::RefusalPartialEq;
 use std::alloc::AllocError;
 use std::alloc::Refused;
 

@@ -1,7 +1,6 @@
 // What a draft and a plan hold of a scan besides its views.
 ghost use Rattle.std.specs.Of.Vec.{vec-items};
 ghost use Rattle.scan.specs.Plans.{Near, Reaches};
-
 use crate::listed::ListedAxis;
 use geometry::distances::Distances;
 

@@ -6,16 +6,12 @@ ghost use lib.IntN.{pos};
 ghost use lib.ListN.{length, getD};
 ghost use Rattle.std.specs.Of.Vec.{vec-items};
 ghost use Rattle.std.specs.Vec.{made};
-ghost use Rattle.std.specs.declared.option.Option.the-variants.{None, Some};
-ghost use Rattle.std.specs.declared.result.Result.the-variants.{Ok, Err};
-ghost use Rattle.scan.specs.declared.failure.Failure.the-variants.{Refused, Memory};
 ghost use Rattle.scan.specs.Axes.{Rises, Within};
-ghost use Rattle.scan.specs.Checks.{listedCheck};
-
+ghost use Rattle.scan.specs.Checks.{Outcome, listedCheck};
 use crate::axis::Axis;
+use crate::edges::Edges;
 use crate::edges::check_count;
 use crate::edges::check_edges;
-use crate::edges::Edges;
 use crate::failure::Failure;
 use crate::failure::FailureFromAlloc;
 use crate::failure::FailureFromRefusal;
@@ -47,15 +43,17 @@ pub struct ListedAxis {
 
 impl ListedAxis {
     pub fn new(heap: Global, edges: &[i32]) -> Result<ListedAxis, Failure>
-        ensures { λ r. ⌜ elim r [ Ok a ↦ (listedCheck (now (edges .entry)) ≡ None) × (vec-items (a .edges) ≡ now (edges .entry)) | Err (Refused e) ↦ listedCheck (now (edges .entry)) ≡ Some e | Err Memory ↦ listedCheck (now (edges .entry)) ≡ None ] ⌝ }
+        ensures { λ r. ⌜ Outcome (listedCheck (now (edges .entry))) (λ a. vec-items (a .edges) ≡ now (edges .entry)) r ⌝ }
     {
         check_count(edges.len(), 2, 513)?;
         check_edges(&edges)?;
-        Ok(ListedAxis { edges: edges.to_vec(heap)? })
+        Ok(ListedAxis {
+            edges: edges.to_vec(heap)?,
+        })
     }
 
     // The edges of any axis, listed.
-    pub fn copy_of<A: Axis>(heap: Global, axis: &A) -> Result<ListedAxis, AllocError>
+    pub(crate) fn copy_of<A: Axis>(heap: Global, axis: &A) -> Result<ListedAxis, AllocError>
         ensures { λ r. ⌜ made r (λ a. vec-items (a .edges) ≡ edges (now (axis .entry))) ⌝ }
     {
         let mut edges = Vec::new(heap);

@@ -1,7 +1,6 @@
 // A sealed scan, which never changes.
 ghost use Prim.Native.Nat.{_≤_};
 ghost use Rattle.std.specs.Of.Vec.{vec-len};
-
 use crate::layout::Layout;
 use geometry::step::Step;
 

@@ -5,7 +5,6 @@ ghost use lib.ListN.{length};
 ghost use Rattle.scan.specs.Axes.{cellsOf};
 ghost use Rattle.scan.specs.Plans.{voxelsOf, panelOf};
 ghost use Rattle.scan.specs.Meanings.{planOf};
-
 use crate::axis::Axis;
 use crate::listed::ListedAxisEdges;
 use crate::plan::Plan;

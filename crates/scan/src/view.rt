@@ -11,7 +11,6 @@ ghost use Rattle.scan.specs.declared.plan.Plan.{Plan};
 ghost use Rattle.scan.specs.Plans.{lowOf, highOf, landingOf, landing};
 ghost use Rattle.scan.specs.Meanings.{planOf};
 ghost use Rattle.scan.specs.Lands.{Lands};
-
 use crate::axis::Axis;
 use crate::landed::Landed;
 use crate::layout::Layout;
@@ -40,6 +39,7 @@ pub impl Planned for &Plan as PlanPlanned {
     }
 }
 
+// A plan, and the direction of one of its views.
 #[derive(Clone, Copy)]
 pub struct View<P> {
     plan: P,
@@ -56,7 +56,9 @@ struct Cell {
 fn edge_at(axis: &ListedAxis, i: usize) -> Edge
     ensures { λ r. ⌜ r .at ≡ edgeOf (vec-items (now (axis .entry) .edges)) i ⌝ }
 {
-    Edge { at: axis.edge(i) as i64 }
+    Edge {
+        at: axis.edge(i) as i64,
+    }
 }
 
 fn cell_at(axis: &ListedAxis, j: usize) -> Cell
@@ -64,7 +66,10 @@ fn cell_at(axis: &ListedAxis, j: usize) -> Cell
     ensures high { λ r. ⌜ r .high .at ≡ highOf (vec-items (now (axis .entry) .edges)) j ⌝ }
 {
     let j = j.min(axis.cells() - 1);
-    Cell { low: edge_at(axis, j), high: edge_at(axis, j + 1) }
+    Cell {
+        low: edge_at(axis, j),
+        high: edge_at(axis, j + 1),
+    }
 }
 
 impl Plan {
@@ -73,7 +78,10 @@ impl Plan {
         ensures { λ r. ⌜ elim r [ Some w ↦ (view < length (planOf (now (self .entry)) .steps)) × (landingOf (planOf (now (w .plan))) (w .direction .slabs) (w .direction .a) (w .direction .b) ≡ landing (planOf (now (self .entry))) view) × Lands (planOf (now (self .entry))) view | None ↦ length (planOf (now (self .entry)) .steps) ≤ view ] ⌝ }
     {
         if view < self.views.len() {
-            Some(View { plan: self, direction: direction(self.views[view]) })
+            Some(View {
+                plan: self,
+                direction: direction(self.views[view]),
+            })
         } else {
             None
         }
@@ -137,7 +145,13 @@ pub impl<P: Planned> Landed for View<P> as ViewLanded {
     fn height_edge(&self, slab: usize, l: usize) -> i64 {
         let layout = &self.plan.plan().layout;
         let Cell { low, high } = cell_at(slab_axis(layout, self.direction.slabs), slab);
-        landed::height_edge(layout.distances, self.direction, low, high, edge_at(&layout.z, l))
+        landed::height_edge(
+            layout.distances,
+            self.direction,
+            low,
+            high,
+            edge_at(&layout.z, l),
+        )
     }
 
     fn column_edge(&self, k: usize) -> i64 {
@@ -148,6 +162,12 @@ pub impl<P: Planned> Landed for View<P> as ViewLanded {
     fn row_edge(&self, column: usize, m: usize) -> i64 {
         let layout = &self.plan.plan().layout;
         let Cell { low, high } = cell_at(&layout.column, column);
-        landed::row_edge(layout.distances, self.direction, low, high, edge_at(&layout.row, m))
+        landed::row_edge(
+            layout.distances,
+            self.direction,
+            low,
+            high,
+            edge_at(&layout.row, m),
+        )
     }
 }

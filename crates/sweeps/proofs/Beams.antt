@@ -2,8 +2,8 @@
 use mathlib.Core.Path.{_≡_, refl, sym, ap, ap₂, _∙_, subst}
 use mathlib.Core.Logic.{⊎-elim}
 use mathlib.Core.List.{List}
-use Prim.Native.Nat.{ℕ, zero, suc, _+_, _-_, _*_, _^_, _<_, _≤_}
-use native.Mathlib.Nat.{add-mul, mul-assoc, mul-one, mul-comm, mul-zero, zero-mul, mul-le-mul}
+use Prim.Native.Nat.{ℕ, _+_, _-_, _*_, _^_, _<_, _≤_}
+use native.Mathlib.Nat.{add-mul, mul-assoc, mul-one, mul-zero, zero-mul, mul-le-mul}
 use native.Mathlib.Omega.{arith}
 use lib.Arith.{digits-lt}
 use lib.Dec.{eqb}
@@ -11,21 +11,18 @@ use mathlib.Core.Bool.{cond}
 use lib.IntN.{ℤ, pos}
 use lib.ListN.{length, getD}
 use lib.Signed.{_≤ℤ_}
-use mir.Syntax.{w64}
-use mir.Val.{SFits, toZ, ofZ}
 use Rattle.std.specs.Numbers.{minZ, maxZ}
-use Rattle.std.proofs.shelf.Signed.{toZ-ofZ, clamps}
+use Rattle.std.proofs.shelf.Signed.{clamps}
 use borrow.Author.Differences.{ints}
 use Rattle.std.proofs.shelf.Tests.{cases-lt}
 use Rattle.geometry.specs.Overlap.{overlap}
 use Rattle.geometry.specs.declared.direction.SlabAxis.{SlabAxis}
 use Rattle.geometry.specs.declared.direction.SlabAxis.the-variants.{X, Y}
-use Rattle.values.specs.Laws.{Ops, Laws}
 use Rattle.values.proofs.Sums.{sum-same, sum-none}
-use Rattle.scan.specs.Landing.{Landing, Sound, bySlabs, nx, ny, voxels, cells, crossOverlap, heightOverlap}
-use Rattle.sweeps.specs.Strips.{naturals, share, laid, stripCells, stripShare, Inside, Rising, Covers, Gained}
+use Rattle.scan.specs.Landing.{Landing, Sound, bySlabs, voxels, cells, crossOverlap, heightOverlap}
+use Rattle.sweeps.specs.Strips.{share, laid, stripCells, stripShare, Inside, Rising, Covers}
 use Rattle.sweeps.specs.Tables.{Tabled}
-use Rattle.sweeps.specs.Passes.{weights, Sized, Placed, slabStart, slabStride, rise, beamWeight, columnWeight, SlabOf, ColumnOf, Meets}
+use Rattle.sweeps.specs.Passes.{weights, Sized, Placed, slabStart, slabStride, rise, beamWeight, columnWeight, SlabOf, ColumnOf, Meets, CellLine}
 use Rattle.sweeps.specs.declared.pass.Way.{Way}
 use Rattle.sweeps.specs.declared.pass.Way.the-variants.{Forward, Back}
 use Rattle.sweeps.specs.declared.pass.Slab.{Slab}
@@ -33,7 +30,6 @@ use Rattle.sweeps.specs.declared.pass.Column.{Column}
 use Rattle.sweeps.specs.declared.strip.Strip.{Strip}
 use Rattle.sweeps.proofs.Naturals.{naturals-laws}
 use Rattle.sweeps.proofs.Laid.{laid-zero}
-use Rattle.sweeps.proofs.Gains.{gained-same, gained-none}
 use Rattle.geometry.proofs.Overlaps.{overlap-sorted, overlap-sym}
 
 -- Where voxel i of slab j at height l stands: (l ny + j) nx + i, or (l ny + i) nx + j where the slabs are along x.
@@ -122,20 +118,6 @@ module _ (L : Landing) (slab : Slab) (column : Column) (sl : SlabOf L slab) (co 
     pub start : s .start ≡ slab .start + l * slab .rise
     pub meets : Meets slab column s
 
-  -- the line of cells that a height l may reach
-  pub record CellLine (l : ℕ) (s : Strip) : Type 0 where
-    pub covers : Covers s
-    pub start : s .start ≡ column .number
-    pub stride : s .stride ≡ column .stride
-    pub edges : s .edges .now ≡ column .rows .now
-    pub low : s .low ≡ getD (slab .heights .now) l (pos 0)
-    pub high : s .high ≡ getD (slab .heights .now) (l + 1) (pos 0)
-
-  pub meets : (s : Strip) → SFits w64 (column .low) → SFits w64 (column .high) → Covers s → (s .start ≡ slab .start) × (s .stride ≡ slab .stride) → s .edges .now ≡ slab .crosses .now
-      → (s .low ≡ toZ w64 (ofZ w64 (column .low))) × (s .high ≡ toZ w64 (ofZ w64 (column .high))) → Meets slab column s
-  meets s f h covers place edges stretch =
-      record { covers = covers; stride = place .1; edges = edges; low = stretch .0 ∙ toZ-ofZ w64 _ f; high = stretch .1 ∙ toZ-ofZ w64 _ h }
-
   pub voxel-line : (l : ℕ) (cross s : Strip) → Meets slab column cross → (s .start ≡ slab .start + l * slab .rise) × (s .stride ≡ cross .stride) → s .edges .now ≡ cross .edges .now
       → (s .low ≡ cross .low) × (s .high ≡ cross .high) → (s .first ≡ cross .first) × (s .last ≡ cross .last) → VoxelLine l s
   voxel-line l cross s meets place edges stretch run =
@@ -144,7 +126,7 @@ module _ (L : Landing) (slab : Slab) (column : Column) (sl : SlabOf L slab) (co 
       let v = meets .covers in
       let n : stripCells s ≡ stripCells cross = ap (λ es. length es - 1) edges in
       let same : (i : ℕ) → share (s .edges .now) (s .low) (s .high) i ≡ share (cross .edges .now) (cross .low) (cross .high) i =
-          λ i. ap (λ es. share es (s .low) (s .high) i) edges ∙ ap₂ (λ a b. share (cross .edges .now) a b i) low high in
+      λ i. ap (λ es. share es (s .low) (s .high) i) edges ∙ ap₂ (λ a b. share (cross .edges .now) a b i) low high in
       record {
         start = place .0;
         meets = record {
@@ -154,16 +136,14 @@ module _ (L : Landing) (slab : Slab) (column : Column) (sl : SlabOf L slab) (co 
             run = let r = v .run in let a = run .0 in let b = run .1 in omega arith;
             ends = let r = v .ends in let b = run .1 in omega arith;
             before = λ i h. let a = run .0 in same i ∙ v .before i (omega arith);
-            after = λ i h h′. let b = run .1 in same i ∙ v .after i (omega arith) (omega arith) };
+            after = λ i h h′. let b = run .1 in same i ∙ v .after i (omega arith) (omega arith);
+          };
           stride = place .1 ∙ meets .stride;
           edges = edges ∙ meets .edges;
           low = low ∙ meets .low;
-          high = high ∙ meets .high } }
-
-  pub cell-line : (l : ℕ) (s : Strip) → SFits w64 (getD (slab .heights .now) l (pos 0)) → SFits w64 (getD (slab .heights .now) (l + 1) (pos 0)) → Covers s → (s .start ≡ column .number) × (s .stride ≡ column .stride) → s .edges .now ≡ column .rows .now
-      → (s .low ≡ toZ w64 (ofZ w64 (getD (slab .heights .now) l (pos 0)))) × (s .high ≡ toZ w64 (ofZ w64 (getD (slab .heights .now) (l + 1) (pos 0)))) → CellLine l s
-  cell-line l s f h covers place edges stretch =
-      record { covers = covers; start = place .0; stride = place .1; edges = edges; low = stretch .0 ∙ toZ-ofZ w64 _ f; high = stretch .1 ∙ toZ-ofZ w64 _ h }
+          high = high ∙ meets .high;
+        };
+      }
 
   module _ (l : ℕ) (lh : l < L .heights) (s : Strip) where
     abbrev start : ℕ
@@ -190,35 +170,35 @@ module _ (L : Landing) (slab : Slab) (column : Column) (sl : SlabOf L slab) (co 
         let place : s .start + i * s .stride ≡ start + i * slabStride L = ap₂ (λ a b. a + i * b) (start-is v) (v .meets .stride ∙ sl .stride) in
         rw place (voxel-inside L j l i (sl .below) lh (omega arith))
 
-    rows-are : CellLine l s → stripCells s ≡ L .rows
+    rows-are : CellLine slab column l s → stripCells s ≡ L .rows
     rows-are v = let e = ap length (v .edges) in let f = co .rows .0 in omega arith
 
     -- where the run of rows begins
-    pub near-rows : CellLine l s → s .first ≤ L .rows
+    pub near-rows : CellLine slab column l s → s .first ≤ L .rows
     near-rows v = let n = rows-are v in let r = v .covers .run in let e = v .covers .ends in omega arith
 
-    cell-share : CellLine l s → (m : ℕ) → m < L .rows → share (s .edges .now) (s .low) (s .high) m ≡ heightOverlap L j l k m
+    cell-share : CellLine slab column l s → (m : ℕ) → m < L .rows → share (s .edges .now) (s .low) (s .high) m ≡ heightOverlap L j l k m
     cell-share v m h =
         ap (λ es. share es (s .low) (s .high) m) (v .edges) ∙ ap₂ (λ a b. share (column .rows .now) a b m) (v .low) (v .high) ∙ height-share l m lh h
 
-    pub cells-laid : CellLine l s → (c : ℕ) → stripShare s c ≡ laid k (L .columns) (λ m. heightOverlap L j l k m) (L .rows) c
+    pub cells-laid : CellLine slab column l s → (c : ℕ) → stripShare s c ≡ laid k (L .columns) (λ m. heightOverlap L j l k m) (L .rows) c
     cells-laid v c =
         let n = rows-are v in
         laid-same (s .start) k (s .stride) (L .columns) (stripCells s) (L .rows) _ _ (v .start) (v .stride ∙ co .stride) n (λ m h. cell-share v m (omega arith)) c
 
-    pub cells-inside : CellLine l s → Inside s (cells L)
+    pub cells-inside : CellLine slab column l s → Inside s (cells L)
     cells-inside v m h =
         let n = rows-are v in
         let place : s .start + m * s .stride ≡ k + m * L .columns = ap₂ (λ a b. a + m * b) (v .start) (v .stride ∙ co .stride) in
         rw place (cell-inside L k m (co .below) (omega arith))
 
     -- no cell is reached
-    pub cells-none : CellLine l s → s .last ≤ s .first → (x c : ℕ) → beamWeight L j k l x c ≡ 0
+    pub cells-none : CellLine slab column l s → s .last ≤ s .first → (x c : ℕ) → beamWeight L j k l x c ≡ 0
     unfolding beamWeight
     cells-none v h x c =
         let n = rows-are v in
         let z : laid k (L .columns) (λ m. heightOverlap L j l k m) (L .rows) c ≡ 0 =
-            sym (cells-laid v c) ∙ laid-zero (s .start) (s .stride) (share (s .edges .now) (s .low) (s .high)) (stripCells s) c (share-empty s (v .covers) h) in
+        sym (cells-laid v c) ∙ laid-zero (s .start) (s .stride) (share (s .edges .now) (s .low) (s .high)) (stripCells s) c (share-empty s (v .covers) h) in
         ap (λ b. laid start (slabStride L) (λ i. crossOverlap L j i k) (L .crosses) x * b) z ∙ mul-zero _
 
     -- no voxel is reached
@@ -226,7 +206,7 @@ module _ (L : Landing) (slab : Slab) (column : Column) (sl : SlabOf L slab) (co 
     unfolding beamWeight
     voxels-none v h x c =
         let z : laid start (slabStride L) (λ i. crossOverlap L j i k) (L .crosses) x ≡ 0 =
-            sym (voxels-laid v x) ∙ laid-zero (s .start) (s .stride) (share (s .edges .now) (s .low) (s .high)) (stripCells s) x (share-empty s (v .meets .covers) h) in
+        sym (voxels-laid v x) ∙ laid-zero (s .start) (s .stride) (share (s .edges .now) (s .low) (s .high)) (stripCells s) x (share-empty s (v .meets .covers) h) in
         ap (λ b. b * laid k (L .columns) (λ m. heightOverlap L j l k m) (L .rows) c) z ∙ zero-mul _
 
   -- where the run of voxels begins
@@ -238,11 +218,11 @@ module _ (L : Landing) (slab : Slab) (column : Column) (sl : SlabOf L slab) (co 
   unfolding columnWeight
   column-none s v h x c =
       sum-none naturals-laws (L .heights) _ (λ l lh.
-        voxels-none l lh (record { start = slab .start + l * slab .rise; stride = s .stride; edges = s .edges; low = s .low; high = s .high; first = s .first; last = s .last })
-          (voxel-line l s _ v (refl, refl) refl (refl, refl) (refl, refl)) h x c)
+      voxels-none l lh (record { start = slab .start + l * slab .rise; stride = s .stride; edges = s .edges; low = s .low; high = s .high; first = s .first; last = s .last })
+      (voxel-line l s _ v (refl, refl) refl (refl, refl) (refl, refl)) h x c)
 
   -- what a voxel and a cell have of their weight here
-  pub beam-is : (l : ℕ) → l < L .heights → (s t : Strip) → VoxelLine l s → CellLine l t → (x c : ℕ) → stripShare s x * stripShare t c ≡ beamWeight L j k l x c
+  pub beam-is : (l : ℕ) → l < L .heights → (s t : Strip) → VoxelLine l s → CellLine slab column l t → (x c : ℕ) → stripShare s x * stripShare t c ≡ beamWeight L j k l x c
   unfolding beamWeight
   beam-is l lh s t vs ct x c = ap₂ (λ a b. a * b) (voxels-laid l lh s vs x) (cells-laid l lh t ct c)
 

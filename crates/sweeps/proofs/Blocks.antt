@@ -1,16 +1,15 @@
 -- Columns side by side, and the tables of a block.
-use mathlib.Core.Path.{_≡_, refl, sym, ap, ap₂, subst, _∙_}
+use mathlib.Core.Path.{_≡_, sym, ap, ap₂, _∙_}
 use mathlib.Core.List.{List}
-use Prim.Native.Nat.{ℕ, _+_, _-_, _*_, _/_, _%_, _<_, _≤_}
-use native.Mathlib.Nat.{add-mul, one-mul, mul-le-mul-right, add-assoc}
+use Prim.Native.Nat.{ℕ, _+_, _-_, _*_, _<_, _≤_}
+use native.Mathlib.Nat.{add-mul, one-mul, mul-le-mul-right}
 use native.Mathlib.Omega.{arith}
-use lib.Arith.{digits-div, digits-mod, digits-lt}
+use lib.Arith.{digits-div, digits-mod}
 use lib.IntN.{ℤ, pos}
 use lib.ListN.{length, getD, take, drop}
 use Rattle.std.specs.Numbers.{minZ, maxZ}
 use Rattle.std.proofs.shelf.Lists.{getD-take, getD-drop, length-take-le, length-drop}
 use Rattle.scan.specs.Landing.{Landing}
-use Rattle.sweeps.specs.Tables.{Tabled}
 use Rattle.sweeps.specs.Passes.{ColumnOf, BlockOf}
 use Rattle.sweeps.specs.declared.pass.Column.{Column}
 use Rattle.sweeps.specs.declared.pass.Block.{Block}
@@ -58,5 +57,8 @@ module _ (L : Landing) (b : Block) (bo : BlockOf L b) (d : ℕ) (below : d < b .
         stride = stride ∙ bo .stride;
         low = low ∙ ap₂ minZ one other;
         high = high ∙ ap₂ maxZ one other;
-        rows = (ap length rows ∙ part-length ∙ bo .width,
-                λ m h. let width = bo .width in ap (λ es. getD es m (pos 0)) rows ∙ part-edge m (omega arith) ∙ ap (λ k. L .T k m) (sym number)) }
+        rows = (
+          ap length rows ∙ part-length ∙ bo .width,
+          λ m h. let width = bo .width in ap (λ es. getD es m (pos 0)) rows ∙ part-edge m (omega arith) ∙ ap (λ k. L .T k m) (sym number),
+        );
+      }

@@ -1,22 +1,20 @@
 -- From an accepted call on a plan's view to what its sweep asks and leaves.
 use mathlib.Core.Path.{_≡_, refl, sym, ap, subst, _∙_}
 use mathlib.Core.List.{List}
-use Prim.Native.Nat.{ℕ, _+_, _-_, _*_, _<_, _≤_}
+use Prim.Native.Nat.{ℕ, _+_, _-_, _*_, _≤_}
 use native.Mathlib.Omega.{arith}
 use lib.IntN.{ℤ}
 use lib.ListN.{length, take, drop}
 use borrow.Rule.Slice.PartMut.{putMid}
-use Rattle.std.specs.declared.option.Option.{Option}
 use Rattle.std.specs.declared.option.Option.the-variants.{None}
 use Rattle.geometry.specs.declared.direction.SlabAxis.{SlabAxis}
 use Rattle.geometry.specs.declared.direction.SlabAxis.the-variants.{X, Y}
 use Rattle.geometry.specs.Turn.{slabAxis, mainOf, sideOf}
 use Rattle.scan.specs.Landing.{Landing, voxels, cells, weight}
-use Rattle.scan.specs.Plans.{Scan, stepOf, landingOf, landing, voxelsOf, panelOf, weightOf}
-use Rattle.scan.specs.declared.refusal.Refusal.{Refusal}
+use Rattle.scan.specs.Plans.{Scan, stepOf, landingOf, landing, voxelsOf, panelOf}
 use Rattle.values.specs.Laws.{Ops, Laws}
 use Rattle.sweeps.specs.Strips.{Gained}
-use Rattle.sweeps.specs.Systems.{System, places, forward, back}
+use Rattle.sweeps.specs.Systems.{System, forward, back}
 use Rattle.sweeps.specs.Calls.{systemOf, callCheck, unlessRefused}
 use Rattle.sweeps.specs.Passes.{weights, Answered}
 use Rattle.sweeps.specs.declared.pass.Way.the-variants.{Forward, Back}
@@ -80,17 +78,17 @@ module _ {V : Type 0} {o : Ops V} (laws : Laws o) (scan : Scan) (view : ℕ) (f 
       → putMid start ((start + n) - start) working ys ≡ unlessRefused (callCheck s view (length volume) (length working)) (forward o s view f volume working) working
   forward-leaves ys len gained =
       renamed (λ a m. length ys ≡ length (viewPart a m working) → Gained o f volume (weights Forward (weight L)) (viewPart a m working) ys
-          → putMid a ((a + m) - a) working ys ≡ forward o s view f volume working)
-        (λ len′ gained′. forward-is laws s view f volume working (accepted .known) (accepted .voxels) (accepted .cells) ys len′
-          (gained-same laws f volume (weights Forward (weight L)) (s .weight view) (viewPart (view * panelOf scan) (panelOf scan) working) ys (λ q p h k. weight-is q p) gained′))
-        len gained
+      → putMid a ((a + m) - a) working ys ≡ forward o s view f volume working)
+      (λ len′ gained′. forward-is laws s view f volume working (accepted .known) (accepted .voxels) (accepted .cells) ys len′
+      (gained-same laws f volume (weights Forward (weight L)) (s .weight view) (viewPart (view * panelOf scan) (panelOf scan) working) ys (λ q p h k. weight-is q p) gained′))
+      len gained
       ∙ kept (forward o s view f volume working) working
 
   pub back-leaves : (new : List V) → length new ≡ length volume → Gained o f (viewPart start n working) (weights Back (weight L)) volume new
       → new ≡ unlessRefused (callCheck s view (length volume) (length working)) (back o s view f working volume) volume
   back-leaves new len gained =
       renamed (λ a m. Gained o f (viewPart a m working) (weights Back (weight L)) volume new → new ≡ back o s view f working volume)
-        (λ gained′. back-is laws s view f volume working (accepted .known) (accepted .voxels) (accepted .cells) new len
-          (gained-same laws f (viewPart (view * panelOf scan) (panelOf scan) working) (weights Back (weight L)) (λ c x. s .weight view x c) volume new (λ q p h k. weight-is p q) gained′))
-        gained
+      (λ gained′. back-is laws s view f volume working (accepted .known) (accepted .voxels) (accepted .cells) new len
+      (gained-same laws f (viewPart (view * panelOf scan) (panelOf scan) working) (weights Back (weight L)) (λ c x. s .weight view x c) volume new (λ q p h k. weight-is p q) gained′))
+      gained
       ∙ kept (back o s view f working volume) volume

@@ -1,5 +1,5 @@
 -- How gains of a store add up.
-use mathlib.Core.Path.{_≡_, refl, sym, ap, ap₂, _∙_}
+use mathlib.Core.Path.{_≡_, sym, ap, _∙_}
 use mathlib.Core.List.{List}
 use Prim.Native.Nat.{ℕ, _+_, _*_, _<_}
 use native.Mathlib.Omega.{arith}
@@ -34,9 +34,9 @@ module _ {V : Type 0} {o : Ops V} (laws : Laws o) (f : V) (from : List V) where
       ∙ ap (λ u. o .plus u (o .times f (total N p))) (a p l)
       ∙ laws .plus-assoc (at o old p) (o .times f (total M p)) (o .times f (total N p))
       ∙ ap (o .plus (at o old p))
-          (sym (laws .times-plus f (total M p) (total N p))
-          ∙ ap (o .times f) (sym (sum-plus laws (length from) _ _)
-              ∙ sum-same laws (length from) _ _ (λ q k. sym (multiple-add laws (at o from q) (M q p) (N q p)))))
+      (sym (laws .times-plus f (total M p) (total N p))
+      ∙ ap (o .times f) (sym (sum-plus laws (length from) _ _)
+      ∙ sum-same laws (length from) _ _ (λ q k. sym (multiple-add laws (at o from q) (M q p) (N q p)))))
 
   -- a multiple of f times a sum goes into the sum
   pub multiple-total : (A : ℕ → ℕ) (b : ℕ) → o .multiple (o .times f (sum o (length from) (λ q. o .multiple (at o from q) (A q)))) b ≡ o .times f (sum o (length from) (λ q. o .multiple (at o from q) (A q * b)))

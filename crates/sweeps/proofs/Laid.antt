@@ -3,8 +3,7 @@ use mathlib.Core.Path.{_≡_, refl, sym, ap, ap₂, _∙_}
 use mathlib.Core.Logic.{_≢_, ⊎-elim}
 use mathlib.Core.Bool.{cond}
 use mathlib.Core.List.{List}
-use Prim.Native.Nat.{ℕ, zero, suc, _+_, _*_, _<_, _≤_}
-use native.Mathlib.Omega.{arith}
+use Prim.Native.Nat.{ℕ, zero, _+_, _*_, _<_, _≤_}
 use lib.Dec.{eqb}
 use lib.ListN.{length, set}
 use Rattle.std.proofs.shelf.Lists.{getD-set-same, getD-set-other}
@@ -13,7 +12,7 @@ use Rattle.values.specs.Laws.{Ops, Laws}
 use Rattle.values.specs.Sums.{sum}
 use Rattle.values.proofs.Sums.{sum-more, sum-same, sum-none, sum-plus, sum-past, sum-only, multiple-add}
 use Rattle.sweeps.specs.Stores.{at}
-use Rattle.sweeps.specs.Strips.{naturals, laid}
+use Rattle.sweeps.specs.Strips.{laid}
 use Rattle.sweeps.proofs.Naturals.{naturals-laws}
 
 module _ (start stride : ℕ) (w : ℕ → ℕ) where
@@ -64,13 +63,13 @@ module _ {V : Type 0} {o : Ops V} (laws : Laws o) (start stride : ℕ) (w : ℕ 
       let k = start + n * stride in
       let term : ℕ → V = λ q. o .multiple (at o xs q) (here start stride w n q) in
       let alone : sum o (length xs) term ≡ o .multiple (at o xs k) (w n) =
-          sum-only laws (length xs) k term lt (λ q l ne. ap (o .multiple (at o xs q)) (here-miss start stride w n q ne) ∙ laws .multiple-zero (at o xs q))
-          ∙ ap (o .multiple (at o xs k)) (here-hit start stride w n k refl) in
+      sum-only laws (length xs) k term lt (λ q l ne. ap (o .multiple (at o xs q)) (here-miss start stride w n q ne) ∙ laws .multiple-zero (at o xs q))
+      ∙ ap (o .multiple (at o xs k)) (here-hit start stride w n k refl) in
       ap₂ (o .plus) e (f ∙ sym alone)
       ∙ sym (sum-plus laws (length xs) _ term)
       ∙ sum-same laws (length xs) _ _ (λ q l.
-          sym (multiple-add laws (at o xs q) (laid start stride w n q) (here start stride w n q))
-          ∙ ap (o .multiple (at o xs q)) (sym (laid-more start stride w n q)))
+      sym (multiple-add laws (at o xs q) (laid start stride w n q) (here start stride w n q))
+      ∙ ap (o .multiple (at o xs q)) (sym (laid-more start stride w n q)))
 
   pub gather-all : (m n : ℕ) → n ≤ m → ((i : ℕ) → n ≤ i → i < m → w i ≡ 0) → gathered n ≡ gathered m
   gather-all m n le h = sum-same laws (length xs) _ _ (λ q l. ap (o .multiple (at o xs q)) (sym (laid-past start stride w m n q le h)))
@@ -94,11 +93,11 @@ module _ {V : Type 0} {o : Ops V} (laws : Laws o) (start stride : ℕ) (w : ℕ 
       let k = start + n * stride in
       scatter-join s n p (at o ys p) (at o (set ys k y) p) (inv p l)
       (⊎-elim
-        (λ same. ap (λ j. at o (set ys k y) j) same ∙ getD-set-same ys k y (o .zero) lt ∙ e
-            ∙ ap₂ (λ j m. o .plus (at o ys j) (o .multiple s m)) (sym same) (sym (here-hit start stride w n p same)))
-        (λ other. getD-set-other ys k p y (o .zero) other
-            ∙ sym (ap (λ m. o .plus (at o ys p) (o .multiple s m)) (here-miss start stride w n p other) ∙ ap (o .plus (at o ys p)) (laws .multiple-zero s) ∙ laws .plus-zero (at o ys p)))
-        (cases-eq p k))
+      (λ same. ap (λ j. at o (set ys k y) j) same ∙ getD-set-same ys k y (o .zero) lt ∙ e
+      ∙ ap₂ (λ j m. o .plus (at o ys j) (o .multiple s m)) (sym same) (sym (here-hit start stride w n p same)))
+      (λ other. getD-set-other ys k p y (o .zero) other
+      ∙ sym (ap (λ m. o .plus (at o ys p) (o .multiple s m)) (here-miss start stride w n p other) ∙ ap (o .plus (at o ys p)) (laws .multiple-zero s) ∙ laws .plus-zero (at o ys p)))
+      (cases-eq p k))
 
   pub scatter-all : (s : V) (m n : ℕ) (ys : List V) → n ≤ m → ((i : ℕ) → n ≤ i → i < m → w i ≡ 0) → Scattered s n ys → Scattered s m ys
   scatter-all s m n ys le h inv p l = inv p l ∙ ap (λ k. o .plus (at o xs p) (o .multiple s k)) (sym (laid-past start stride w m n p le h))

@@ -1,5 +1,5 @@
 -- Gains summed over the turns of a loop, whichever way the sweep goes.
-use mathlib.Core.Path.{_≡_, refl, sym, ap, _∙_}
+use mathlib.Core.Path.{_≡_, refl, sym, _∙_}
 use mathlib.Core.List.{List}
 use Prim.Native.Nat.{ℕ, _+_, _<_}
 use native.Mathlib.Omega.{arith}
@@ -33,8 +33,8 @@ module _ {V : Type 0} {o : Ops V} (laws : Laws o) (f : V) (from : List V) (way :
   pub gained-joined : (N P Q : ℕ → ℕ → ℕ) (mid new : List V) → length mid ≡ length old → ((x c : ℕ) → N x c + P x c ≡ Q x c) → Gained o f from (weights way N) old mid → Gained o f from (weights way P) mid new → Gained o f from (weights way Q) old new
   gained-joined N P Q mid new len h a b =
       gained-same laws f from _ (weights way Q) old new
-        (λ q p i k. weights-plus way N P q p ∙ weights-same way _ _ h q p)
-        (gained-more laws f from (weights way N) (weights way P) old mid new len a b)
+      (λ q p i k. weights-plus way N P q p ∙ weights-same way _ _ h q p)
+      (gained-more laws f from (weights way N) (weights way P) old mid new len a b)
 
   pub summed-more : (n : ℕ) (mid new : List V) → length mid ≡ length old → Gained o f from (weights way (summed M n)) old mid → Gained o f from (weights way (M n)) mid new → Gained o f from (weights way (summed M (n + 1))) old new
   summed-more n mid new len = gained-joined (summed M n) (M n) (summed M (n + 1)) mid new len (λ x c. sym (sum-more naturals-laws n (λ t. M t x c)))

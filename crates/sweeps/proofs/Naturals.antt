@@ -1,5 +1,4 @@
 -- Whole numbers keep the laws of values, so the lemmas on sums serve them too.
-use mathlib.Core.Path.{refl}
 use native.Mathlib.Nat.{add-comm, add-assoc, add-zero, mul-comm, mul-assoc, mul-add, mul-zero, mul-one}
 use mathlib.Core.Path.{ap, _∙_}
 use Prim.Native.Nat.{_+_, _*_}

@@ -1,13 +1,11 @@
 -- Stores place by place: what a sweep of one view leaves is what the definitions say.
-use mathlib.Core.Path.{_≡_, refl, sym, ap, ap₂, _∙_}
-use mathlib.Core.Bool.{Bool, true, false, cond, _&&_}
+use mathlib.Core.Path.{_≡_, sym, ap, ap₂, _∙_}
+use mathlib.Core.Bool.{true, false}
 use mathlib.Core.Logic.{⊎-elim}
 use mathlib.Core.List.{List, _++_}
 use Prim.Native.Nat.{ℕ, _+_, _-_, _*_, _<_, _≤_}
-use native.Mathlib.Nat.{add-mul, one-mul, mul-le-mul-right}
 use native.Mathlib.Omega.{arith}
-use lib.Dec.{leb, ltb}
-use lib.ListN.{length, getD, take, drop}
+use lib.ListN.{length, take, drop}
 use borrow.Rule.Slice.PartMut.{putMid}
 use Rattle.std.proofs.shelf.Counted.{fill-by-all}
 use Rattle.std.proofs.shelf.Lists.{getD-append-left, getD-append-right, getD-take, getD-drop, length-append, length-take-le, length-drop}
@@ -104,21 +102,21 @@ module _ {V : Type 0} {o : Ops V} (laws : Laws o) (s : System) (v : ℕ) (f : V)
   forward-is ys len gained =
       is-built o (places s) _ (putMid start ((start + s .cells) - start) working ys) (length-put o start (s .cells) working view-within ys len ∙ cells)
       (λ i l. ⊎-elim
-        (λ lt. put-before o start (s .cells) working view-within ys len i lt ∙ sym (cond-false _ _ _ (mine-before i lt)))
-        (λ ge. ⊎-elim
-          (λ lt.
-            let c : start + (i - start) ≡ i = omega arith in
-            let below : i - start < s .cells = omega arith in
-            let size = length-part o start (s .cells) working view-within in
-            ap (at o (putMid start ((start + s .cells) - start) working ys)) (sym c)
-            ∙ put-in o start (s .cells) working view-within ys len (i - start) below
-            ∙ gained (i - start) (omega arith)
-            ∙ ap₂ (λ a n. o .plus a (o .times f (sum o n (λ x. o .multiple (at o volume x) (s .weight v x (i - start))))))
-                (at-part o start (s .cells) working view-within (i - start) below ∙ ap (at o working) c) voxels
-            ∙ sym (cond-true _ _ _ (mine-at i ge lt)))
-          (λ ge′. put-after o start (s .cells) working view-within ys len i ge′ ∙ sym (cond-false _ _ _ (mine-after i ge′)))
-          (cases-lt i (start + s .cells)))
-        (cases-lt i start))
+      (λ lt. put-before o start (s .cells) working view-within ys len i lt ∙ sym (cond-false _ _ _ (mine-before i lt)))
+      (λ ge. ⊎-elim
+      (λ lt.
+      let c : start + (i - start) ≡ i = omega arith in
+      let below : i - start < s .cells = omega arith in
+      let size = length-part o start (s .cells) working view-within in
+      ap (at o (putMid start ((start + s .cells) - start) working ys)) (sym c)
+      ∙ put-in o start (s .cells) working view-within ys len (i - start) below
+      ∙ gained (i - start) (omega arith)
+      ∙ ap₂ (λ a n. o .plus a (o .times f (sum o n (λ x. o .multiple (at o volume x) (s .weight v x (i - start))))))
+      (at-part o start (s .cells) working view-within (i - start) below ∙ ap (at o working) c) voxels
+      ∙ sym (cond-true _ _ _ (mine-at i ge lt)))
+      (λ ge′. put-after o start (s .cells) working view-within ys len i ge′ ∙ sym (cond-false _ _ _ (mine-after i ge′)))
+      (cases-lt i (start + s .cells)))
+      (cases-lt i start))
 
   -- what is written to the volume
   pub back-is : (new : List V) → length new ≡ length volume → Gained o f cellsOf (λ c x. s .weight v x c) volume new → new ≡ back o s v f working volume
@@ -126,7 +124,7 @@ module _ {V : Type 0} {o : Ops V} (laws : Laws o) (s : System) (v : ℕ) (f : V)
   back-is new len gained =
       is-built o (s .voxels) _ new (len ∙ voxels)
       (λ x l.
-        let size = length-part o start (s .cells) working view-within in
-        gained x (omega arith)
-        ∙ ap (λ n. o .plus (at o volume x) (o .times f (sum o n (λ c. o .multiple (at o cellsOf c) (s .weight v x c))))) size
-        ∙ ap (λ u. o .plus (at o volume x) (o .times f u)) (sum-same laws (s .cells) _ _ (λ c k. ap (λ a. o .multiple a (s .weight v x c)) (at-part o start (s .cells) working view-within c k))))
+      let size = length-part o start (s .cells) working view-within in
+      gained x (omega arith)
+      ∙ ap (λ n. o .plus (at o volume x) (o .times f (sum o n (λ c. o .multiple (at o cellsOf c) (s .weight v x c))))) size
+      ∙ ap (λ u. o .plus (at o volume x) (o .times f u)) (sum-same laws (s .cells) _ _ (λ c k. ap (λ a. o .multiple a (s .weight v x c)) (at-part o start (s .cells) working view-within c k))))

@@ -1,17 +1,15 @@
 -- The run of a strip holds every cell that overlaps its stretch.
-use mathlib.Core.Path.{_≡_, refl, ap}
+use mathlib.Core.Path.{_≡_}
 use mathlib.Core.Logic.{⊎-elim}
 use mathlib.Core.List.{List}
 use Prim.Native.Nat.{ℕ, zero, suc, _+_, _-_, _<_, _≤_}
 use native.Mathlib.Omega.{arith}
-use native.Mathlib.Numerals.{add-one}
 use lib.IntN.{ℤ, pos}
 use lib.ListN.{length, getD}
 use lib.Signed.{_≤ℤ_, ≤ℤ-refl}
 use borrow.Author.Differences.{ints}
 use Rattle.std.proofs.shelf.Tests.{cases-lt}
-use Rattle.sweeps.specs.Strips.{share, Rising, Covers}
-use Rattle.sweeps.specs.declared.strip.Strip.{Strip}
+use Rattle.sweeps.specs.Strips.{share, Rising}
 use Rattle.geometry.proofs.Overlaps.{overlap-low, overlap-high}
 
 module _ (es : List ℤ) (rises : Rising es) where

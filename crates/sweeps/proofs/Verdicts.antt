@@ -1,7 +1,7 @@
 -- When a call on a view is refused, and what holds where it is not.
-use mathlib.Core.Path.{_≡_, refl, sym, ap, ap₂, _∙_}
+use mathlib.Core.Path.{_≡_, refl, ap, ap₂, _∙_}
 use mathlib.Core.Bool.{Bool, true, false, not}
-use Prim.Native.Nat.{ℕ, _*_, _<_, _≤_}
+use Prim.Native.Nat.{ℕ, _<_, _≤_}
 use native.Mathlib.Omega.{arith}
 use lib.Dec.{leb, eqb}
 use Rattle.std.specs.Options.{orOther}
@@ -70,4 +70,5 @@ module _ (s : System) (view volume working : ℕ) where
       record {
         known = leb-false (s .views) view (t .0);
         voxels = eqb-true volume (s .voxels) (not-false (eqb volume (s .voxels)) (t .1));
-        cells = eqb-true working (places s) (not-false (eqb working (places s)) (t .2)) }
+        cells = eqb-true working (places s) (not-false (eqb working (places s)) (t .2));
+      }

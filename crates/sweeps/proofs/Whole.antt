@@ -1,15 +1,14 @@
 -- The weights of all slabs, columns and heights together are the weights of voxels and cells.
-use mathlib.Core.Path.{_≡_, refl, sym, ap, ap₂, subst, _∙_}
-use mathlib.Core.Logic.{_≢_, ⊎-elim}
+use mathlib.Core.Path.{_≡_, sym, ap, ap₂, _∙_}
+use mathlib.Core.Logic.{_≢_}
 use Prim.Native.Nat.{ℕ, _+_, _*_, _/_, _%_, _<_, _≤_}
 use native.Mathlib.Nat.{div-add-mod', mod-lt, mul-zero, zero-mul, div-lt-iff-lt-mul}
 use native.Mathlib.Omega.{arith}
 use lib.Arith.{digits-div, digits-mod}
-use Rattle.std.proofs.shelf.Tests.{cases-eq}
 use Rattle.geometry.specs.declared.direction.SlabAxis.{SlabAxis}
 use Rattle.geometry.specs.declared.direction.SlabAxis.the-variants.{X, Y}
 use Rattle.values.specs.Sums.{sum}
-use Rattle.values.proofs.Sums.{sum-same, sum-none, sum-only, sum-swap, sum-split}
+use Rattle.values.proofs.Sums.{sum-none, sum-only, sum-swap, sum-split}
 use Rattle.scan.specs.Landing.{Landing, Sound, bySlabs, nx, ny, voxels, cells, slabOf, crossOf, heightOf, crossOverlap, heightOverlap, weight}
 use Rattle.sweeps.specs.Strips.{naturals, laid}
 use Rattle.sweeps.specs.Passes.{slabStart, slabStride, rise, beamWeight, columnWeight, slabWeight, blockWeight}
@@ -115,20 +114,20 @@ module _ (L : Landing) (sound : Sound L) (x c : ℕ) (xv : x < voxels L) (cc : c
   A-here : (k : ℕ) → A j′ k l′ ≡ crossOverlap L j′ i′ k
   A-here k =
       laid-only (slabStart L j′ + l′ * rise L) (slabStride L) (λ i. crossOverlap L j′ i k) (L .crosses) i′ x
-        (cross-below (L .slabs) (L .crosses) x (L .along) (sound .slabs .0) (sound .crosses .0))
-        (voxel-encoded (L .slabs) (L .crosses) x (L .along) ∙ sym (voxel-place (L .along) (L .slabs) (L .crosses) l′ j′ i′))
-        (λ i ic ne e. ne (of-line j′ l′ i (slab-below (L .slabs) (L .crosses) x (L .along) (sound .slabs .0) (sound .crosses .0)) ic e .1 .0))
+      (cross-below (L .slabs) (L .crosses) x (L .along) (sound .slabs .0) (sound .crosses .0))
+      (voxel-encoded (L .slabs) (L .crosses) x (L .along) ∙ sym (voxel-place (L .along) (L .slabs) (L .crosses) l′ j′ i′))
+      (λ i ic ne e. ne (of-line j′ l′ i (slab-below (L .slabs) (L .crosses) x (L .along) (sound .slabs .0) (sound .crosses .0)) ic e .1 .0))
 
   A-slab : (j k l : ℕ) → j < L .slabs → j ≢ j′ → A j k l ≡ 0
   A-slab j k l js ne =
       laid-none (slabStart L j + l * rise L) (slabStride L) (λ i. crossOverlap L j i k) (L .crosses) x
-        (λ i ic. here-miss (slabStart L j + l * rise L) (slabStride L) (λ i. crossOverlap L j i k) i x (λ e. ne (of-line j l i js ic e .0)))
+      (λ i ic. here-miss (slabStart L j + l * rise L) (slabStride L) (λ i. crossOverlap L j i k) i x (λ e. ne (of-line j l i js ic e .0)))
 
   A-height : (k l : ℕ) → l ≢ l′ → A j′ k l ≡ 0
   A-height k l ne =
       laid-none (slabStart L j′ + l * rise L) (slabStride L) (λ i. crossOverlap L j′ i k) (L .crosses) x
-        (λ i ic. here-miss (slabStart L j′ + l * rise L) (slabStride L) (λ i. crossOverlap L j′ i k) i x
-          (λ e. ne (of-line j′ l i (slab-below (L .slabs) (L .crosses) x (L .along) (sound .slabs .0) (sound .crosses .0)) ic e .1 .1)))
+      (λ i ic. here-miss (slabStart L j′ + l * rise L) (slabStride L) (λ i. crossOverlap L j′ i k) i x
+      (λ e. ne (of-line j′ l i (slab-below (L .slabs) (L .crosses) x (L .along) (sound .slabs .0) (sound .crosses .0)) ic e .1 .1)))
 
   -- a cell at a column's place is the column's
   of-column : (k m : ℕ) → k < L .columns → c ≡ k + m * L .columns → (k ≡ k′) × (m ≡ m′)
@@ -142,13 +141,13 @@ module _ (L : Landing) (sound : Sound L) (x c : ℕ) (xv : x < voxels L) (cc : c
   B-here : (j l : ℕ) → B j k′ l ≡ heightOverlap L j l k′ m′
   B-here j l =
       laid-only k′ (L .columns) (λ m. heightOverlap L j l k′ m) (L .rows) m′ c row-below
-        (let e = two-digits c (L .columns) in omega arith)
-        (λ m mr ne e. ne (of-column k′ m column-below e .1))
+      (let e = two-digits c (L .columns) in omega arith)
+      (λ m mr ne e. ne (of-column k′ m column-below e .1))
 
   B-column : (j k l : ℕ) → k < L .columns → k ≢ k′ → B j k l ≡ 0
   B-column j k l kc ne =
       laid-none k (L .columns) (λ m. heightOverlap L j l k m) (L .rows) c
-        (λ m mr. here-miss k (L .columns) (λ m. heightOverlap L j l k m) m c (λ e. ne (of-column k m kc e .0)))
+      (λ m mr. here-miss k (L .columns) (λ m. heightOverlap L j l k m) m c (λ e. ne (of-column k m kc e .0)))
 
   beam-zero-left : (j k l : ℕ) → A j k l ≡ 0 → beamWeight L j k l x c ≡ 0
   unfolding beamWeight

@@ -4,3 +4,4 @@ pub mod Tables
 pub mod Passes
 pub mod Systems
 pub mod Calls
+pub mod Figures

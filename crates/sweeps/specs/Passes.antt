@@ -1,6 +1,8 @@
 -- What the loops of a sweep add up, level by level: for readers of the code. The calls' promises do not rest on it.
 use mathlib.Core.Path.{_≡_}
 use Prim.Native.Nat.{ℕ, _+_, _*_, _/_, _%_, _<_, _≤_}
+use lib.IntN.{pos}
+use lib.ListN.{getD}
 use Rattle.std.specs.Numbers.{minZ, maxZ}
 use Rattle.values.specs.Sums.{sum}
 use Rattle.scan.specs.Landing.{Landing, bySlabs, nx, ny, voxels, cells, crossOverlap, heightOverlap}
@@ -85,6 +87,15 @@ pub record Meets (s : Slab) (c : Column) (strip : Strip) : Type 0 where
   pub edges : strip .edges .now ≡ s .crosses .now
   pub low : strip .low ≡ c .low
   pub high : strip .high ≡ c .high
+
+-- The strip is the cells of a column, over the stretch of a height.
+pub record CellLine (s : Slab) (c : Column) (l : ℕ) (strip : Strip) : Type 0 where
+  pub covers : Covers strip
+  pub start : strip .start ≡ c .number
+  pub stride : strip .stride ≡ c .stride
+  pub edges : strip .edges .now ≡ c .rows .now
+  pub low : strip .low ≡ getD (s .heights .now) l (pos 0)
+  pub high : strip .high ≡ getD (s .heights .now) (l + 1) (pos 0)
 
 -- The numbers and tables of some columns side by side.
 pub record BlockOf (L : Landing) (b : Block) : Type 0 where

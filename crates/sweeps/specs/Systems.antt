@@ -26,12 +26,12 @@ mine s v i = leb (v * s .cells) i && ltb i (v * s .cells + s .cells)
 unfoldable pub forward : {V : Type 0} → Ops V → System → ℕ → V → List V → List V → List V
 forward o s v f volume working =
     built (places s) (λ i.
-      cond (mine s v i)
-        (o .plus (at o working i) (o .times f (sum o (s .voxels) (λ x. o .multiple (at o volume x) (s .weight v x (i - v * s .cells))))))
-        (at o working i))
+    cond (mine s v i)
+    (o .plus (at o working i) (o .times f (sum o (s .voxels) (λ x. o .multiple (at o volume x) (s .weight v x (i - v * s .cells))))))
+    (at o working i))
 
 -- Back: each voxel gains f times the sum over the view's cells of the multiple of the value by the weight.
 unfoldable pub back : {V : Type 0} → Ops V → System → ℕ → V → List V → List V → List V
 back o s v f working volume =
     built (s .voxels) (λ x.
-      o .plus (at o volume x) (o .times f (sum o (s .cells) (λ c. o .multiple (at o working (v * s .cells + c)) (s .weight v x c)))))
+    o .plus (at o volume x) (o .times f (sum o (s .cells) (λ c. o .multiple (at o working (v * s .cells + c)) (s .weight v x c)))))

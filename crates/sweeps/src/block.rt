@@ -31,7 +31,14 @@ fn sweep_slabs<V: Value, L: Landed>(pass: &Pass<'_, V, L>, block: Block<'_>, to:
 }
 
 // A block of columns, whose edges are computed once for all slabs, into tables of their numbers.
-fn sweep_tables<V: Value, L: Landed>(pass: &Pass<'_, V, L>, first: usize, count: usize, columns: &mut [i64], rows: &mut [i64], to: &mut [V])
+fn sweep_tables<V: Value, L: Landed>(
+    pass: &Pass<'_, V, L>,
+    first: usize,
+    count: usize,
+    columns: &mut [i64],
+    rows: &mut [i64],
+    to: &mut [V],
+)
     requires sized { ⌜ Sized (now pass .way) (L·Landed .landing (now (now pass .view))) (length (now (now pass .from))) (length (now to)) ⌝ }
     requires below { ⌜ first + count ≤ L·Landed .landing (now (now pass .view)) .columns ⌝ }
     requires few { ⌜ count ≤ 16 ⌝ }
@@ -43,7 +50,18 @@ fn sweep_tables<V: Value, L: Landed>(pass: &Pass<'_, V, L>, first: usize, count:
     let width = pass.view.rows() + 1;
     fill(pass.view, EdgeList::Column { first }, columns);
     fill(pass.view, EdgeList::Row { first, width }, rows);
-    sweep_slabs(pass, Block { first, count, stride, width, columns, rows }, to);
+    sweep_slabs(
+        pass,
+        Block {
+            first,
+            count,
+            stride,
+            width,
+            columns,
+            rows,
+        },
+        to,
+    );
 }
 
 fn sweep_block<V: Value, L: Landed>(pass: &Pass<'_, V, L>, first: usize, count: usize, to: &mut [V])
@@ -55,7 +73,14 @@ fn sweep_block<V: Value, L: Landed>(pass: &Pass<'_, V, L>, first: usize, count: 
     let width = pass.view.rows() + 1;
     let mut columns = [0i64; BLOCK + 1];
     let mut rows = [0i64; MOST_ROW_EDGES];
-    sweep_tables(pass, first, count, &mut columns[0..count + 1], &mut rows[0..count * width], to);
+    sweep_tables(
+        pass,
+        first,
+        count,
+        &mut columns[0..count + 1],
+        &mut rows[0..count * width],
+        to,
+    );
 }
 
 // The whole view: each target place gains the factor times the sum over all source places of the multiple by the weight.

@@ -16,7 +16,10 @@ fn share_of(strip: Strip<'_>, i: usize) -> u64
     requires covers { ⌜ Covers strip ⌝ }
     ensures { λ r. ⌜ r ≡ share (now (strip .entry .edges)) (strip .entry .low) (strip .entry .high) i ⌝ }
 {
-    gap(strip.edges[i].max(strip.low), strip.edges[i + 1].min(strip.high))
+    gap(
+        strip.edges[i].max(strip.low),
+        strip.edges[i + 1].min(strip.high),
+    )
 }
 
 // The sum over a strip of the multiples of its values by their overlaps.
@@ -45,7 +48,13 @@ fn scatter<V: Value>(to: &mut [V], strip: Strip<'_>, value: V)
 }
 
 // Carries what one strip holds to another, each cell weighted by its overlap, times the factor.
-pub(crate) fn carry<V: Value>(factor: V, from: &[V], source: Strip<'_>, to: &mut [V], target: Strip<'_>)
+pub(crate) fn carry<V: Value>(
+    factor: V,
+    from: &[V],
+    source: Strip<'_>,
+    to: &mut [V],
+    target: Strip<'_>,
+)
     requires source { ⌜ Inside source (length (now from)) ⌝ ∗ ⌜ Covers source ⌝ }
     requires target { ⌜ Inside target (length (now to)) ⌝ ∗ ⌜ Covers target ⌝ }
     ensures { λ _. ⌜ Gained (V·Value .ops) factor (now (from .entry)) (λ q p. stripShare (source .entry) q * stripShare (target .entry) p) (now (to .entry)) (now (to .exit)) ⌝ }

@@ -1,7 +1,8 @@
 ghost use mathlib.Core.Path.{_≡_};
 ghost use Prim.Native.Nat.{ℕ, _+_, _*_, _<_, _≤_};
 ghost use lib.ListN.{length};
-ghost use Rattle.sweeps.specs.Strips.{Gained};
+ghost use lib.Signed.{_≤ℤ_};
+ghost use Rattle.sweeps.specs.Strips.{Rising, Gained};
 ghost use Rattle.sweeps.specs.Passes.{weights, Sized, columnWeight, SlabOf, ColumnOf, Meets};
 use crate::height::sweep_height;
 use crate::pass::Column;
@@ -13,7 +14,13 @@ use scan::landed::Landed;
 use values::value::Value;
 
 // Height after height of one slab, for the run of voxels that meets the column.
-fn sweep_heights<V: Value, L: Landed>(pass: &Pass<'_, V, L>, slab: Slab<'_>, column: Column<'_>, cross: Strip<'_>, to: &mut [V])
+fn sweep_heights<V: Value, L: Landed>(
+    pass: &Pass<'_, V, L>,
+    slab: Slab<'_>,
+    column: Column<'_>,
+    cross: Strip<'_>,
+    to: &mut [V],
+)
     requires sized { ⌜ Sized (now pass .way) (L·Landed .landing (now (now pass .view))) (length (now (now pass .from))) (length (now to)) ⌝ }
     requires slab { ⌜ SlabOf (L·Landed .landing (now (now pass .view))) slab ⌝ }
     requires column { ⌜ ColumnOf (L·Landed .landing (now (now pass .view))) column ⌝ }
@@ -26,8 +33,31 @@ fn sweep_heights<V: Value, L: Landed>(pass: &Pass<'_, V, L>, slab: Slab<'_>, col
     }
 }
 
+// The voxels of a slab, and the run of them that the column overlaps.
+fn cross_line<'a>(slab: Slab<'a>, column: Column<'_>, near: usize) -> Strip<'a>
+    requires crosses { ⌜ Rising (now (slab .crosses)) ⌝ }
+    requires ordered { ⌜ column .low ≤ℤ column .high ⌝ }
+    requires near { ⌜ near < length (now (slab .crosses)) ⌝ }
+    ensures { λ r. ⌜ Meets (slab .entry) (column .entry) r ⌝ }
+{
+    strip_over(
+        slab.start,
+        slab.stride,
+        slab.crosses,
+        column.low,
+        column.high,
+        near,
+    )
+}
+
 // One slab and one column. Answers where the run of voxels begins, for the next column.
-pub(crate) fn sweep_column<V: Value, L: Landed>(pass: &Pass<'_, V, L>, slab: Slab<'_>, column: Column<'_>, near: usize, to: &mut [V]) -> usize
+pub(crate) fn sweep_column<V: Value, L: Landed>(
+    pass: &Pass<'_, V, L>,
+    slab: Slab<'_>,
+    column: Column<'_>,
+    near: usize,
+    to: &mut [V],
+) -> usize
     requires sized { ⌜ Sized (now pass .way) (L·Landed .landing (now (now pass .view))) (length (now (now pass .from))) (length (now to)) ⌝ }
     requires slab { ⌜ SlabOf (L·Landed .landing (now (now pass .view))) slab ⌝ }
     requires column { ⌜ ColumnOf (L·Landed .landing (now (now pass .view))) column ⌝ }
@@ -35,7 +65,7 @@ pub(crate) fn sweep_column<V: Value, L: Landed>(pass: &Pass<'_, V, L>, slab: Sla
     ensures near { λ r. ⌜ r ≤ L·Landed .landing (now (now (pass .entry) .view)) .crosses ⌝ }
     ensures gained { λ _. ⌜ Gained (V·Value .ops) (now (pass .entry) .factor) (now (now (pass .entry) .from)) (weights (now (pass .entry) .way) (columnWeight (L·Landed .landing (now (now (pass .entry) .view))) (slab .entry .number) (column .entry .number))) (now (to .entry)) (now (to .exit)) ⌝ }
 {
-    let cross = strip_over(slab.start, slab.stride, slab.crosses, column.low, column.high, near);
+    let cross = cross_line(slab, column, near);
     if cross.first < cross.last {
         sweep_heights(pass, slab, column, cross, to);
     }

@@ -1,12 +1,15 @@
 //! Matched projection and backprojection sweeps.
-mod strip;
-mod run;
-mod carry;
-mod table;
-mod pass;
-mod height;
-mod column;
-mod slab;
+pub mod backprojection;
 mod block;
-pub mod calls;
+mod call;
+mod carry;
+mod column;
+pub mod figures;
+mod height;
+mod pass;
+pub mod projection;
+mod run;
+mod slab;
+mod strip;
+mod table;
 pub mod tally;

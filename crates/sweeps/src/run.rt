@@ -44,7 +44,14 @@ fn run_end(edges: &[i64], high: i64, mut at: usize) -> usize
 
 // The cells between the edges, and the run of them that overlaps the stretch from `low` to `high`. The search starts at
 // `near`: the run of one stretch is the best guess for the next.
-pub(crate) fn strip_over(start: usize, stride: usize, edges: &[i64], low: i64, high: i64, near: usize) -> Strip<'_>
+pub(crate) fn strip_over(
+    start: usize,
+    stride: usize,
+    edges: &[i64],
+    low: i64,
+    high: i64,
+    near: usize,
+) -> Strip<'_>
     requires rises { ⌜ Rising (now edges) ⌝ }
     requires ordered { ⌜ low ≤ℤ high ⌝ }
     requires near { ⌜ near < length (now edges) ⌝ }
@@ -55,5 +62,13 @@ pub(crate) fn strip_over(start: usize, stride: usize, edges: &[i64], low: i64, h
 {
     let first = stepped_up(edges, low, stepped_down(edges, low, near));
     let last = run_end(edges, high, first);
-    Strip { start, stride, edges, low, high, first, last }
+    Strip {
+        start,
+        stride,
+        edges,
+        low,
+        high,
+        first,
+        last,
+    }
 }

@@ -35,11 +35,22 @@ fn column_of(block: Block<'_>, offset: usize) -> Column<'_>
     let one = block.columns[offset];
     let other = block.columns[offset + 1];
     let start = offset * block.width;
-    Column { number: block.first + offset, stride: block.stride, low: one.min(other), high: one.max(other), rows: &block.rows[start..start + block.width] }
+    Column {
+        number: block.first + offset,
+        stride: block.stride,
+        low: one.min(other),
+        high: one.max(other),
+        rows: &block.rows[start..start + block.width],
+    }
 }
 
 // Column after column of a block.
-fn sweep_columns<V: Value, L: Landed>(pass: &Pass<'_, V, L>, block: Block<'_>, slab: Slab<'_>, to: &mut [V])
+fn sweep_columns<V: Value, L: Landed>(
+    pass: &Pass<'_, V, L>,
+    block: Block<'_>,
+    slab: Slab<'_>,
+    to: &mut [V],
+)
     requires sized { ⌜ Sized (now pass .way) (L·Landed .landing (now (now pass .view))) (length (now (now pass .from))) (length (now to)) ⌝ }
     requires block { ⌜ BlockOf (L·Landed .landing (now (now pass .view))) block ⌝ }
     requires slab { ⌜ SlabOf (L·Landed .landing (now (now pass .view))) slab ⌝ }
@@ -52,7 +63,12 @@ fn sweep_columns<V: Value, L: Landed>(pass: &Pass<'_, V, L>, block: Block<'_>, s
 }
 
 // Where the voxels of a slab stand, with the tables of its edges.
-fn slab_of<'a, L: Landed>(view: &L, number: usize, crosses: &'a [i64], heights: &'a [i64]) -> Slab<'a>
+fn slab_of<'a, L: Landed>(
+    view: &L,
+    number: usize,
+    crosses: &'a [i64],
+    heights: &'a [i64],
+) -> Slab<'a>
     requires { ⌜ number < L·Landed .landing (now view) .slabs ⌝ }
     ensures number { λ r. ⌜ r .number ≡ number ⌝ }
     ensures start { λ r. ⌜ r .start ≡ slabStart (L·Landed .landing (now (view .entry))) number ⌝ }
@@ -64,13 +80,34 @@ fn slab_of<'a, L: Landed>(view: &L, number: usize, crosses: &'a [i64], heights: 
     let slabs = view.slabs();
     let across = view.crosses();
     match view.along() {
-        SlabAxis::X => Slab { number, start: number, stride: slabs, rise: across * slabs, crosses, heights },
-        SlabAxis::Y => Slab { number, start: number * across, stride: 1, rise: slabs * across, crosses, heights },
+        SlabAxis::X => Slab {
+            number,
+            start: number,
+            stride: slabs,
+            rise: across * slabs,
+            crosses,
+            heights,
+        },
+        SlabAxis::Y => Slab {
+            number,
+            start: number * across,
+            stride: 1,
+            rise: slabs * across,
+            crosses,
+            heights,
+        },
     }
 }
 
 // One slab and a block of columns: the slab's edges are computed once for the block, into tables of their numbers.
-fn sweep_tabled<V: Value, L: Landed>(pass: &Pass<'_, V, L>, block: Block<'_>, number: usize, crosses: &mut [i64], heights: &mut [i64], to: &mut [V])
+fn sweep_tabled<V: Value, L: Landed>(
+    pass: &Pass<'_, V, L>,
+    block: Block<'_>,
+    number: usize,
+    crosses: &mut [i64],
+    heights: &mut [i64],
+    to: &mut [V],
+)
     requires sized { ⌜ Sized (now pass .way) (L·Landed .landing (now (now pass .view))) (length (now (now pass .from))) (length (now to)) ⌝ }
     requires block { ⌜ BlockOf (L·Landed .landing (now (now pass .view))) block ⌝ }
     requires number { ⌜ number < L·Landed .landing (now (now pass .view)) .slabs ⌝ }
@@ -84,7 +121,12 @@ fn sweep_tabled<V: Value, L: Landed>(pass: &Pass<'_, V, L>, block: Block<'_>, nu
     sweep_columns(pass, block, slab, to);
 }
 
-pub(crate) fn sweep_slab<V: Value, L: Landed>(pass: &Pass<'_, V, L>, block: Block<'_>, number: usize, to: &mut [V])
+pub(crate) fn sweep_slab<V: Value, L: Landed>(
+    pass: &Pass<'_, V, L>,
+    block: Block<'_>,
+    number: usize,
+    to: &mut [V],
+)
     requires sized { ⌜ Sized (now pass .way) (L·Landed .landing (now (now pass .view))) (length (now (now pass .from))) (length (now to)) ⌝ }
     requires block { ⌜ BlockOf (L·Landed .landing (now (now pass .view))) block ⌝ }
     requires number { ⌜ number < L·Landed .landing (now (now pass .view)) .slabs ⌝ }
@@ -94,5 +136,12 @@ pub(crate) fn sweep_slab<V: Value, L: Landed>(pass: &Pass<'_, V, L>, block: Bloc
     let up = pass.view.heights();
     let mut crosses = [0i64; MOST_EDGES];
     let mut heights = [0i64; MOST_EDGES];
-    sweep_tabled(pass, block, number, &mut crosses[0..across + 1], &mut heights[0..up + 1], to);
+    sweep_tabled(
+        pass,
+        block,
+        number,
+        &mut crosses[0..across + 1],
+        &mut heights[0..up + 1],
+        to,
+    );
 }

@@ -7,7 +7,9 @@ impl Count {
     pub fn new(number: i64) -> Count
         ensures { λ r. ⌜ r .bits ≡ bitsOf number ⌝ }
     {
-        Count { bits: number.cast_unsigned() }
+        Count {
+            bits: number.cast_unsigned(),
+        }
     }
 
     pub fn shown(self) -> i64
@@ -27,14 +29,20 @@ pub impl Value for Count as CountValue {
     }
 
     fn plus(self, other: Count) -> Count {
-        Count { bits: self.bits.wrapping_add(other.bits) }
+        Count {
+            bits: self.bits.wrapping_add(other.bits),
+        }
     }
 
     fn times(self, other: Count) -> Count {
-        Count { bits: self.bits.wrapping_mul(other.bits) }
+        Count {
+            bits: self.bits.wrapping_mul(other.bits),
+        }
     }
 
     fn multiple(self, n: u64) -> Count {
-        Count { bits: self.bits.wrapping_mul(n) }
+        Count {
+            bits: self.bits.wrapping_mul(n),
+        }
     }
 }

@@ -14,7 +14,10 @@ pub struct Pair {
 }
 
 pub impl Value for Pair as PairValue {
-    const ZERO: Pair = Pair { first: Count { bits: 0 }, second: Count { bits: 0 } };
+    const ZERO: Pair = Pair {
+        first: Count { bits: 0 },
+        second: Count { bits: 0 },
+    };
 
     ghost ops = { pair-ops };
 
@@ -23,14 +26,23 @@ pub impl Value for Pair as PairValue {
     }
 
     fn plus(self, other: Pair) -> Pair {
-        Pair { first: self.first.plus(other.first), second: self.second.plus(other.second) }
+        Pair {
+            first: self.first.plus(other.first),
+            second: self.second.plus(other.second),
+        }
     }
 
     fn times(self, other: Pair) -> Pair {
-        Pair { first: self.first.times(other.first), second: self.second.times(other.second) }
+        Pair {
+            first: self.first.times(other.first),
+            second: self.second.times(other.second),
+        }
     }
 
     fn multiple(self, n: u64) -> Pair {
-        Pair { first: self.first.multiple(n), second: self.second.multiple(n) }
+        Pair {
+            first: self.first.multiple(n),
+            second: self.second.multiple(n),
+        }
     }
 }

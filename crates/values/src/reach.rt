@@ -18,11 +18,15 @@ pub impl Value for Reach as ReachValue {
     }
 
     fn plus(self, other: Reach) -> Reach {
-        Reach { yes: self.yes | other.yes }
+        Reach {
+            yes: self.yes | other.yes,
+        }
     }
 
     fn times(self, other: Reach) -> Reach {
-        Reach { yes: self.yes & other.yes }
+        Reach {
+            yes: self.yes & other.yes,
+        }
     }
 
     fn multiple(self, n: u64) -> Reach {

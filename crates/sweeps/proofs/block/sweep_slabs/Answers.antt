@@ -19,14 +19,15 @@ sweep-slab-requires g c κs =
     record {
       sized = subst (λ n. Sized (a .pass .now .way) L (length (a .pass .now .from .now)) n) (sym (c .loop-number .kept .to)) (c .pre .sized);
       block = c .pre .block;
-      number = omega arith }
+      number = omega arith;
+    }
 
 pub loop-number-again : need.loop-number-again
 loop-number-again g c =
     let a = c .args in
     let L = g .L·Landed .landing (a .pass .now .view .now) in
     summed-more (g .V·Value·met .lawful) (a .pass .now .factor) (a .pass .now .from .now) (a .pass .now .way) (slabWeight L (a .block .first) (a .block .count)) (a .to .now)
-      (c .loop-number .number) (c .loop-number .to) (c .sweep-slab .last .to) (c .loop-number .kept .to) (c .loop-number .inv) (c .sweep-slab .ensures)
+    (c .loop-number .number) (c .loop-number .to) (c .sweep-slab .last .to) (c .loop-number .kept .to) (c .loop-number .inv) (c .sweep-slab .ensures)
 
 pub returns : need.returns
 unfolding blockWeight
@@ -36,5 +37,5 @@ returns g c =
     let e = c .slabs-slabs .ensures in
     let end : c .loop-number .number ≡ L .slabs = omega arith in
     gained-as (g .V·Value·met .lawful) (a .pass .now .factor) (a .pass .now .from .now) (a .pass .now .way) (slabWeight L (a .block .first) (a .block .count)) (a .to .now)
-      (summed (slabWeight L (a .block .first) (a .block .count)) (c .loop-number .number)) _ (c .loop-number .to)
-      (λ x c′. ap (λ n. summed (slabWeight L (a .block .first) (a .block .count)) n x c′) end) (c .loop-number .inv)
+    (summed (slabWeight L (a .block .first) (a .block .count)) (c .loop-number .number)) _ (c .loop-number .to)
+    (λ x c′. ap (λ n. summed (slabWeight L (a .block .first) (a .block .count)) n x c′) end) (c .loop-number .inv)

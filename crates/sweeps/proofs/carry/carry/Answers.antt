@@ -10,5 +10,5 @@ returns g c p l =
     let a = c .args in
     c .scatter .ensures p l
     ∙ ap (o .plus (at o (a .to .now) p))
-        (ap (λ v. o .multiple v (stripShare (a .target) p)) (c .times .ensures ∙ ap (o .times (a .factor)) (c .gather-sum .ensures))
-        ∙ multiple-total (g .V·Value·met .lawful) (a .factor) (a .from .now) (stripShare (a .source)) (stripShare (a .target) p))
+    (ap (λ v. o .multiple v (stripShare (a .target) p)) (c .times .ensures ∙ ap (o .times (a .factor)) (c .gather-sum .ensures))
+    ∙ multiple-total (g .V·Value·met .lawful) (a .factor) (a .from .now) (stripShare (a .source)) (stripShare (a .target) p))

@@ -1,4 +1,4 @@
-use mathlib.Core.Path.{_≡_, sym, ap, ap₂, _∙_}
+use mathlib.Core.Path.{_≡_, sym, ap₂, _∙_}
 use Prim.Native.Nat.{_+_, _*_, _<_}
 use lib.ListN.{length}
 use native.Mathlib.Omega.{arith}
@@ -21,7 +21,7 @@ loop-i-again g c =
     let item = getD-read (c .args .from .now) (s .start + i * s .stride) _ within (c .index-from-strip .is) (o .zero) in
     c .plus-sum .ensures
     ∙ gather-more (g .V·Value·met .lawful) (s .start) (s .stride) (share (s .edges .now) (s .low) (s .high)) (c .args .from .now) i (c .loop-i .sum) (c .multiple .result)
-        within (c .loop-i .inv) (c .multiple .ensures ∙ ap₂ (o .multiple) item (c .share-of .ensures))
+    within (c .loop-i .inv) (c .multiple .ensures ∙ ap₂ (o .multiple) item (c .share-of .ensures))
 
 pub returns : need.returns
 returns g c =
@@ -29,4 +29,4 @@ returns g c =
     let end : c .loop-i .i ≡ s .last = omega arith in
     c .loop-i .inv
     ∙ gather-all (g .V·Value·met .lawful) (s .start) (s .stride) (share (s .edges .now) (s .low) (s .high)) (c .args .from .now) (stripCells s) (c .loop-i .i) (omega arith)
-        (λ i a b. c .pre .covers .after i (omega arith) b)
+    (λ i a b. c .pre .covers .after i (omega arith) b)

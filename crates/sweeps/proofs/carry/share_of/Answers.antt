@@ -1,14 +1,12 @@
 use mathlib.Core.Path.{_≡_, sym, _∙_}
-use Prim.Native.Nat.{_+_, _<_, _≤_}
+use Prim.Native.Nat.{_+_}
 use lib.IntN.{pos, _-ℤ_}
-use lib.ListN.{length, getD}
+use lib.ListN.{getD}
 use mir.Syntax.{w64}
 use mir.Val.{SFits}
-use native.Mathlib.Omega.{arith}
 use borrow.Author.Needs.{needs}
-use borrow.Author.Differences.{ints}
 use Rattle.std.specs.Numbers.{minZ, maxZ}
-use Rattle.std.proofs.shelf.Signed.{toZ-ofZ, clamps}
+use Rattle.std.proofs.shelf.Signed.{toZ-ofZ}
 use Rattle.geometry.specs.Overlap.{orZero}
 use Rattle.geometry.proofs.Overlaps.{overlap-ordered}
 use Rattle.sweeps.proofs.carry.share_of.Needs as need

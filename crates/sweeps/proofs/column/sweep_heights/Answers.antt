@@ -1,9 +1,6 @@
-use mathlib.Core.Path.{_≡_, refl, sym, ap, subst, _∙_}
-use Prim.Native.Nat.{_<_}
+use mathlib.Core.Path.{_≡_, sym, ap, subst}
 use native.Mathlib.Omega.{arith}
 use lib.ListN.{length}
-use Rattle.values.specs.Sums.{sum}
-use Rattle.sweeps.specs.Strips.{naturals}
 use Rattle.sweeps.specs.Passes.{Sized, beamWeight, columnWeight}
 use Rattle.sweeps.proofs.Levels.{summed, summed-none, summed-more, gained-as}
 use Rattle.sweeps.proofs.column.sweep_heights.Needs as need
@@ -25,15 +22,17 @@ sweep-height-near-requires g c κs =
       column = c .pre .column;
       cross = c .pre .cross;
       height = omega arith;
-      near = c .loop-height .inv .0 }
+      near = c .loop-height .inv .0;
+    }
 
 pub loop-height-again : need.loop-height-again
 loop-height-again g c =
     let a = c .args in
-    let L = g .L·Landed .landing (a .pass .now .view .now) in
-    (c .sweep-height-near .ensures .near,
-     summed-more (g .V·Value·met .lawful) (a .pass .now .factor) (a .pass .now .from .now) (a .pass .now .way) (beamWeight L (a .slab .number) (a .column .number)) (a .to .now)
-       (c .loop-height .height) (c .loop-height .to) (c .sweep-height-near .last .to) (c .loop-height .kept .to) (c .loop-height .inv .1) (c .sweep-height-near .ensures .gained))
+    let L = g .L·Landed .landing (a .pass .now .view .now) in (
+      c .sweep-height-near .ensures .near,
+      summed-more (g .V·Value·met .lawful) (a .pass .now .factor) (a .pass .now .from .now) (a .pass .now .way) (beamWeight L (a .slab .number) (a .column .number)) (a .to .now)
+          (c .loop-height .height) (c .loop-height .to) (c .sweep-height-near .last .to) (c .loop-height .kept .to) (c .loop-height .inv .1) (c .sweep-height-near .ensures .gained),
+    )
 
 pub returns : need.returns
 unfolding columnWeight
@@ -43,5 +42,5 @@ returns g c =
     let len = c .pre .slab .heights .0 in
     let end : c .loop-height .height ≡ L .heights = omega arith in
     gained-as (g .V·Value·met .lawful) (a .pass .now .factor) (a .pass .now .from .now) (a .pass .now .way) (beamWeight L (a .slab .number) (a .column .number)) (a .to .now)
-      (summed (beamWeight L (a .slab .number) (a .column .number)) (c .loop-height .height)) _ (c .loop-height .to)
-      (λ x c′. ap (λ n. summed (beamWeight L (a .slab .number) (a .column .number)) n x c′) end) (c .loop-height .inv .1)
+    (summed (beamWeight L (a .slab .number) (a .column .number)) (c .loop-height .height)) _ (c .loop-height .to)
+    (λ x c′. ap (λ n. summed (beamWeight L (a .slab .number) (a .column .number)) n x c′) end) (c .loop-height .inv .1)

@@ -1,4 +1,4 @@
-use Prim.Native.Nat.{ℕ, _≤_}
+use Prim.Native.Nat.{_≤_}
 use Rattle.sweeps.specs.Strips.{Gained}
 use Rattle.sweeps.specs.Passes.{weights, beamWeight}
 use Rattle.sweeps.proofs.Levels.{summed}

@@ -23,11 +23,11 @@ pub returns-in-Forward : need.returns-in-Forward
 returns-in-Forward g c =
     let a = c .args in
     gained-same (g .V·Value·met .lawful) (a .pass .now .factor) (a .pass .now .from .now) (λ q p. stripShare (a .voxels) q * stripShare (a .cells) p) _ (a .to .now) (c .carry .last .to)
-        (λ q p h k. sym (ap (λ way. weights way (λ x c′. stripShare (a .voxels) x * stripShare (a .cells) c′) q p) (c .in-Forward .is))) (c .carry .ensures)
+    (λ q p h k. sym (ap (λ way. weights way (λ x c′. stripShare (a .voxels) x * stripShare (a .cells) c′) q p) (c .in-Forward .is))) (c .carry .ensures)
 
 pub returns-in-Back : need.returns-in-Back
 returns-in-Back g c =
     let a = c .args in
     gained-same (g .V·Value·met .lawful) (a .pass .now .factor) (a .pass .now .from .now) (λ q p. stripShare (a .cells) q * stripShare (a .voxels) p) _ (a .to .now) (c .carry-in-Back .last .to)
-        (λ q p h k. mul-comm (stripShare (a .cells) q) (stripShare (a .voxels) p)
-            ∙ sym (ap (λ way. weights way (λ x c′. stripShare (a .voxels) x * stripShare (a .cells) c′) q p) (c .in-Back .is))) (c .carry-in-Back .ensures)
+    (λ q p h k. mul-comm (stripShare (a .cells) q) (stripShare (a .voxels) p)
+    ∙ sym (ap (λ way. weights way (λ x c′. stripShare (a .voxels) x * stripShare (a .cells) c′) q p) (c .in-Back .is))) (c .carry-in-Back .ensures)

@@ -1,6 +1,5 @@
 use mathlib.Core.Path.{refl}
 use native.Mathlib.Omega.{arith}
-use borrow.Author.Needs.{needs}
 use Rattle.std.proofs.shelf.Signed.{toZ-ofZ}
 use Rattle.sweeps.proofs.Runs.{before-run, after-run}
 use Rattle.sweeps.proofs.run.strip_over.Needs as need
@@ -18,7 +17,9 @@ returns c =
         ends = omega arith;
         before = before-run (a .edges .now) (c .pre .rises) (a .low) (a .high) (c .pre .ordered) (c .stepped-down .result) (c .stepped-up-first .result) (omega arith) (omega arith)
             (simp toZ-ofZ at (c .stepped-down .ensures .below)) (simp toZ-ofZ at (c .stepped-up-first .ensures .passed));
-        after = after-run (a .edges .now) (c .pre .rises) (a .low) (a .high) (c .pre .ordered) (c .run-end-last .result) (simp toZ-ofZ at (c .run-end-last .ensures .beyond)) };
+        after = after-run (a .edges .now) (c .pre .rises) (a .low) (a .high) (c .pre .ordered) (c .run-end-last .result) (simp toZ-ofZ at (c .run-end-last .ensures .beyond));
+      };
       place = (refl, refl);
       edges = refl;
-      stretch = (refl, refl) })
+      stretch = (refl, refl);
+    })

@@ -1,5 +1,5 @@
-use mathlib.Core.Path.{_≡_, refl, sym, ap, subst, _∙_}
-use Prim.Native.Nat.{ℕ, _+_, _<_}
+use mathlib.Core.Path.{_≡_, sym, ap, subst}
+use Prim.Native.Nat.{ℕ, _+_}
 use native.Mathlib.Omega.{arith}
 use lib.ListN.{length}
 use Rattle.sweeps.specs.Passes.{Sized, columnWeight, slabWeight}
@@ -31,19 +31,21 @@ sweep-column-near-requires g c κs =
       sized = subst (λ n. Sized (a .pass .now .way) L (length (a .pass .now .from .now)) n) (sym (c .loop-offset .kept .to)) (c .pre .sized);
       slab = c .pre .slab;
       column = block-column L (a .block) (c .pre .block) (c .loop-offset .offset) (omega arith) (c .column-of .result) (e .number) (e .stride) (e .low) (e .high) (e .rows);
-      near = c .loop-offset .inv .0 }
+      near = c .loop-offset .inv .0;
+    }
 
 pub loop-offset-again : need.loop-offset-again
 loop-offset-again g c =
     let a = c .args in
     let L = g .L·Landed .landing (a .pass .now .view .now) in
-    let laws = g .V·Value·met .lawful in
-    (c .sweep-column-near .ensures .near,
-     summed-more laws (a .pass .now .factor) (a .pass .now .from .now) (a .pass .now .way) (λ d. columnWeight L (a .slab .number) (a .block .first + d)) (a .to .now)
-       (c .loop-offset .offset) (c .loop-offset .to) (c .sweep-column-near .last .to) (c .loop-offset .kept .to) (c .loop-offset .inv .1)
-       (gained-as laws (a .pass .now .factor) (a .pass .now .from .now) (a .pass .now .way) (λ d. columnWeight L (a .slab .number) (a .block .first + d)) (c .loop-offset .to)
+    let laws = g .V·Value·met .lawful in (
+      c .sweep-column-near .ensures .near,
+      summed-more laws (a .pass .now .factor) (a .pass .now .from .now) (a .pass .now .way) (λ d. columnWeight L (a .slab .number) (a .block .first + d)) (a .to .now)
+          (c .loop-offset .offset) (c .loop-offset .to) (c .sweep-column-near .last .to) (c .loop-offset .kept .to) (c .loop-offset .inv .1)
+          (gained-as laws (a .pass .now .factor) (a .pass .now .from .now) (a .pass .now .way) (λ d. columnWeight L (a .slab .number) (a .block .first + d)) (c .loop-offset .to)
           (columnWeight L (a .slab .number) (c .column-of .result .number)) (columnWeight L (a .slab .number) (a .block .first + c .loop-offset .offset)) (c .sweep-column-near .last .to)
-          (λ x c′. ap (λ k. columnWeight L (a .slab .number) k x c′) (c .column-of .ensures .number)) (c .sweep-column-near .ensures .gained)))
+          (λ x c′. ap (λ k. columnWeight L (a .slab .number) k x c′) (c .column-of .ensures .number)) (c .sweep-column-near .ensures .gained)),
+    )
 
 pub returns : need.returns
 unfolding slabWeight
@@ -53,4 +55,4 @@ returns g c =
     let M : ℕ → ℕ → ℕ → ℕ = λ d. columnWeight L (a .slab .number) (a .block .first + d) in
     let end : c .loop-offset .offset ≡ a .block .count = omega arith in
     gained-as (g .V·Value·met .lawful) (a .pass .now .factor) (a .pass .now .from .now) (a .pass .now .way) M (a .to .now)
-      (summed M (c .loop-offset .offset)) _ (c .loop-offset .to) (λ x c′. ap (λ n. summed M n x c′) end) (c .loop-offset .inv .1)
+    (summed M (c .loop-offset .offset)) _ (c .loop-offset .to) (λ x c′. ap (λ n. summed M n x c′) end) (c .loop-offset .inv .1)

@@ -1,4 +1,4 @@
-use Prim.Native.Nat.{ℕ, _+_, _≤_}
+use Prim.Native.Nat.{_+_, _≤_}
 use Rattle.sweeps.specs.Strips.{Gained}
 use Rattle.sweeps.specs.Passes.{weights, columnWeight}
 use Rattle.sweeps.proofs.Levels.{summed}

@@ -8,5 +8,5 @@ returns g c =
     let a = c .args in
     let L = g .L·Landed .landing (a .pass .now .view .now) in
     gained-as (g .V·Value·met .lawful) (a .pass .now .factor) (a .pass .now .from .now) (a .pass .now .way) (slabWeight L (a .block .first) (a .block .count)) (a .to .now)
-      (slabWeight L (a .block .first) (a .block .count) (c .slab-of-slab .result .number)) _ (c .sweep-columns .last .to)
-      (λ x c′. ap (λ j. slabWeight L (a .block .first) (a .block .count) j x c′) (c .slab-of-slab .ensures .number)) (c .sweep-columns .ensures)
+    (slabWeight L (a .block .first) (a .block .count) (c .slab-of-slab .result .number)) _ (c .sweep-columns .last .to)
+    (λ x c′. ap (λ j. slabWeight L (a .block .first) (a .block .count) j x c′) (c .slab-of-slab .ensures .number)) (c .sweep-columns .ensures)

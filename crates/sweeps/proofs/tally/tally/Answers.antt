@@ -1,4 +1,4 @@
-use mathlib.Core.Path.{_≡_, ap, _∙_}
+use mathlib.Core.Path.{_≡_, ap}
 use mathlib.Core.Bool.{cond}
 use Prim.Native.Nat.{ℕ, _+_}
 use native.Mathlib.Omega.{arith}
@@ -19,8 +19,9 @@ loop-value-again c =
     let inv = c .loop-value .inv .0 in
     let most = c .loop-value .inv .1 in
     elim (c .if-value .came) [
-      then-value w ↦ let yes : _≡_ {A = ℕ} (cond (here .yes) 1 0) 1 = ap (λ b. cond b 1 0) (w .if-value .taken) in let is = w .count-is in (omega arith, omega arith)
-    | else-value w ↦ let no : _≡_ {A = ℕ} (cond (here .yes) 1 0) 0 = ap (λ b. cond b 1 0) (w .if-value .left) in let is = w .count-is in (omega arith, omega arith) ]
+      | then-value w ↦ let yes : _≡_ {A = ℕ} (cond (here .yes) 1 0) 1 = ap (λ b. cond b 1 0) (w .if-value .taken) in let is = w .count-is in (omega arith, omega arith)
+      | else-value w ↦ let no : _≡_ {A = ℕ} (cond (here .yes) 1 0) 0 = ap (λ b. cond b 1 0) (w .if-value .left) in let is = w .count-is in (omega arith, omega arith)
+    ]
 
 pub returns : need.returns
 returns c =

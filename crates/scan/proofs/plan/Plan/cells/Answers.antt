@@ -1,4 +1,4 @@
-use mathlib.Core.Path.{_≡_, ap, _∙_}
+use mathlib.Core.Path.{ap, _∙_}
 use Prim.Native.Nat.{_*_}
 use native.Mathlib.Nat.{mul-le-mul}
 use Rattle.scan.specs.Axes.{cellsOf}
@@ -9,5 +9,5 @@ pub returns : need.returns
 returns c =
     record {
       value = ap (λ n. n * c .columns .result) (c .rows .ensures .value) ∙ ap (λ n. cellsOf (planOf (c .args .self .now) .row) * n) (c .columns .ensures .value);
-      most = mul-le-mul (c .rows .ensures .most) (c .columns .ensures .most)
+      most = mul-le-mul (c .rows .ensures .most) (c .columns .ensures .most);
     }

@@ -1,4 +1,4 @@
-use mathlib.Core.Path.{_≡_, ap, _∙_}
+use mathlib.Core.Path.{ap, _∙_}
 use Prim.Native.Nat.{_*_}
 use native.Mathlib.Nat.{mul-le-mul}
 use Rattle.scan.specs.Axes.{cellsOf}
@@ -11,5 +11,5 @@ returns c =
     let y = cellsOf (planOf (c .args .self .now) .y) in
     record {
       value = ap (λ n. n * c .ny .result * c .nx .result) (c .nz .ensures .value) ∙ ap (λ n. z * n * c .nx .result) (c .ny .ensures .value) ∙ ap (λ n. z * y * n) (c .nx .ensures .value);
-      most = mul-le-mul (mul-le-mul (c .nz .ensures .most) (c .ny .ensures .most)) (c .nx .ensures .most)
+      most = mul-le-mul (mul-le-mul (c .nz .ensures .most) (c .ny .ensures .most)) (c .nx .ensures .most);
     }

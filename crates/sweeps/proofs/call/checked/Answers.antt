@@ -9,7 +9,7 @@ use Rattle.sweeps.specs.Systems.{places}
 use Rattle.sweeps.proofs.Verdicts.{no-view, wrong-volume, wrong-working, accepted}
 use Rattle.scan.specs.Plans.{panelOf}
 use Rattle.sweeps.proofs.CallFacts.{view-end}
-use Rattle.sweeps.proofs.calls.checked.Needs as need
+use Rattle.sweeps.proofs.call.checked.Needs as need
 
 pub returns-in-rest : need.returns-in-rest
 returns-in-rest c =
@@ -41,4 +41,5 @@ returns c =
       start-is = start;
       cells-are = c .cells-cells .ensures .value;
       within = view-end scan (c .args .view) (c .args .volume) (c .args .working) _ _ none start (c .cells-cells .ensures .value);
-      lands = c .in-Some .ensures tt .1 }
+      lands = c .in-Some .ensures tt .1;
+    }
