@@ -264,6 +264,23 @@ def uneven():
         line(name + " back of view 1 onto volume", kind, back(kind, plan, 1, factor, volume, working))
 
 
+def two_more():
+    plan = Plan(D=500, F=2000, x=[-100, 0, 100], y=[-100, 0, 100], z=[-50, 0, 50],
+                column=[-1000, 0, 1000], row=[-50, 0, 50], steps=[0])
+    check_plan("first edges", plan)
+    view = plan.views[0]
+    print("case first edges: D 500, step 0")
+    numbers("U W S T of edge 0, slab 0, column 0", [view.U(0, 0), view.W(0, 0), view.S(0), view.T(0, 0)])
+    plan = Plan(D=1000, F=2000, x=[-100, -20, 50, 100], y=[-90, 0, 30], z=[-50, 10, 50],
+                column=[-200, -50, 60, 200], row=[-100, 0, 100], steps=[5, 20])
+    volume = [p % 2 == 0 for p in range(12)]
+    working = forward(Reach, plan, 1, True, volume, [False] * 12)
+    print("case reaches: uneven plan, view 1 at step 20, every other voxel yes")
+    numbers("tally of forward onto no", [sum(working)])
+    numbers("tally of back of that onto the volume", [sum(back(Reach, plan, 1, True, volume, working))])
+
+
 small()
 x_slabs()
 uneven()
+two_more()

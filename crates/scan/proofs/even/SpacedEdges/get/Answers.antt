@@ -14,9 +14,10 @@ widened z f = omega (arith, ints)
 -- an edge of few cells, and the part of it that the pitch makes, fit 64 bits
 edge-fits : (e p : ℤ) (i : ℕ) → SFits w32 e → SFits w32 p → i ≤ 512 → SFits w64 (pos i *ℤ p) × SFits w64 (e +ℤ pos i *ℤ p)
 edge-fits e p i fe fp few =
-    let size = times-within (pos i) p 512 (2 ^ 31) (omega arith) (omega (arith, ints)) in
-    (within-fits (pos i *ℤ p) (512 * 2 ^ 31) (omega arith) size,
-     within-fits (e +ℤ pos i *ℤ p) (2 ^ 31 + 512 * 2 ^ 31) (omega arith) (plus-within e (pos i *ℤ p) (2 ^ 31) (512 * 2 ^ 31) (omega (arith, ints)) size))
+    let size = times-within (pos i) p 512 (2 ^ 31) (omega arith) (omega (arith, ints)) in (
+      within-fits (pos i *ℤ p) (512 * 2 ^ 31) (omega arith) size,
+      within-fits (e +ℤ pos i *ℤ p) (2 ^ 31 + 512 * 2 ^ 31) (omega arith) (plus-within e (pos i *ℤ p) (2 ^ 31) (512 * 2 ^ 31) (omega (arith, ints)) size),
+    )
 
 pub mul-result : need.mul-result
 mul-result c =
