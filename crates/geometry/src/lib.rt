@@ -1,5 +1,7 @@
 //! The geometry of the distance-driven method of De Man and Basu (2004) for a cone beam and a flat panel: where the edges
 //! of voxels and of detector cells land on a common plane, and how far the stretches between two edges overlap.
+#![tactic(auto)]
+
 pub mod direction;
 pub mod distances;
 pub mod edge;

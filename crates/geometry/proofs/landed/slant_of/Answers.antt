@@ -4,14 +4,14 @@ use Rattle.geometry.proofs.Words.{arg, read, size}
 use Rattle.geometry.proofs.Dividends.{main, side, ray_made, across_made, slant_made}
 use Rattle.geometry.proofs.landed.slant_of.Goals as goal
 
-pub overflow-mul-result : goal.overflow-mul-result
-overflow-mul-result c = (ray_made (main c.args.toward) (side c.args.toward) (arg c.args.panel c.requires.panel tt)).fits
+pub overflow_mul-result : goal.overflow_mul-result
+overflow_mul-result c = (ray_made (main c.args.toward) (side c.args.toward) (arg c.args.panel c.requires.panel tt)).fits
 
-pub overflow-mul-result-2 : goal.overflow-mul-result-2
-overflow-mul-result-2 c = (across_made (main c.args.toward) (side c.args.toward) (arg c.args.k c.requires.edge tt)).fits
+pub overflow_mul-result-2 : goal.overflow_mul-result-2
+overflow_mul-result-2 c = (across_made (main c.args.toward) (side c.args.toward) (arg c.args.k c.requires.edge tt)).fits
 
-pub overflow-sub-result : goal.overflow-sub-result
-overflow-sub-result c = (slant_made (main c.args.toward) (side c.args.toward) (arg c.args.panel c.requires.panel tt) (arg c.args.k c.requires.edge tt)).fits
+pub overflow_sub-result : goal.overflow_sub-result
+overflow_sub-result c = (slant_made (main c.args.toward) (side c.args.toward) (arg c.args.panel c.requires.panel tt) (arg c.args.k c.requires.edge tt)).fits
 
 pub returns : goal.returns
 unfolding slant

@@ -15,5 +15,5 @@ returns-in-1 c = heads c.args.step.below (search rules) (search rules)
 pub returns-in-2 : goal.returns-in-2
 returns-in-2 c = heads c.args.step.below (search rules) (search rules)
 
-pub returns-in-default : goal.returns-in-default
-returns-in-default c = heads c.args.step.below (search rules) (search rules)
+pub returns-in_default : goal.returns-in_default
+returns-in_default c = heads c.args.step.below (search rules) (search rules)
