@@ -4,7 +4,7 @@ use lib.IntN.{*ℤ_comm}
 use borrow.Author.Differences.{ints}
 use Rattle.std.proofs.lemmas.Int.{by_lt_z}
 use Rattle.geometry.specs.Floor.{floor_div}
-use Rattle.geometry.specs.Landed.{depth, slant, cross_edge, height_edge, column_edge, row_edge}
+use Rattle.geometry.specs.Landed.{slant, cross_edge, height_edge, column_edge, row_edge}
 use Rattle.geometry.proofs.FloorLaws.{floor_rises, floor_falls, floor_cross, floor_cross_below}
 use Rattle.geometry.proofs.Products.{*ℤ-assoc, *ℤ--ℤ, times_up, times_down, times_left}
 use Rattle.geometry.proofs.Size.{times_side}

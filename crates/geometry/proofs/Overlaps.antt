@@ -1,5 +1,5 @@
 -- The overlaps with stretches that follow one another add up to the overlap with the whole; and the laws of one overlap. Assumes nothing.
-use Rattle.std.proofs.Common.{◌≡◌, ℕ, zero, suc, ◌+◌, ◌-◌, ◌<◌, ◌≤◌, ℤ, pos, negsuc, ◌+ℤ◌, ◌-ℤ◌, nat_abs, ◌≤ℤ◌, ap, ◌∙◌, inl, inr, arith}
+use Rattle.std.proofs.Common.{◌≡◌, ℕ, zero, suc, ◌-◌, ◌<◌, ◌≤◌, ℤ, pos, negsuc, ◌+ℤ◌, ◌-ℤ◌, nat_abs, ◌≤ℤ◌, ap, ◌∙◌, inl, inr, arith}
 use lib.Signed.{≤ℤ_refl}
 use borrow.Author.Differences.{ints, up, down}
 use Rattle.std.specs.Int.{int_min, int_max}

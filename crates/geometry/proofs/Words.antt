@@ -1,6 +1,6 @@
 -- Sums and products of i64 as the code has them, where each step goes through its bits: what a step means, a bound of its size, and
 -- that it fits. A bound that has to stay below 2 ^ 63 is shown by a computed test, `tt`. Assumes nothing.
-use Rattle.std.proofs.Common.{◌≡◌, ℕ, ◌+◌, ◌*◌, ◌^◌, ◌<◌, ◌≤◌, T, ltb, leb, ℤ, pos, ◌+ℤ◌, ◌-ℤ◌, ◌*ℤ◌, nat_abs, sym, refl, ap, ◌∙◌, subst, arith, ltb→lt, leb→le, w64, SFits, to_z, of_z}
+use Rattle.std.proofs.Common.{◌≡◌, ℕ, ◌+◌, ◌*◌, ◌^◌, ◌≤◌, T, ltb, leb, ℤ, pos, ◌+ℤ◌, ◌-ℤ◌, ◌*ℤ◌, nat_abs, sym, refl, ap, ◌∙◌, subst, arith, ltb→lt, leb→le, w64, SFits, to_z, of_z}
 use Rattle.std.proofs.lemmas.Int.{to_z-of_z}
 use Rattle.geometry.specs.Floor.{floor_div}
 use Rattle.geometry.proofs.Size.{times_within, plus_within, minus_within, within_fits}

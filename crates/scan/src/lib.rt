@@ -1,4 +1,6 @@
 //! Axes, drafts and sealed plans, and where the edges of a plan's views land.
+#![tactic(auto)]
+
 pub mod axis;
 pub mod draft;
 mod drafting;

@@ -1,5 +1,5 @@
 -- Counts keep the laws.
-use Rattle.std.specs.Prelude.{◌≡◌, refl, ℕ, ◌+◌, ◌*◌, ◌-◌, ◌%◌, ◌^◌, ◌<◌, ◌/◌}
+use Rattle.std.specs.Prelude.{◌≡◌, ℕ, ◌+◌, ◌*◌, ◌%◌, ◌^◌, ◌<◌, ◌/◌}
 use Rattle.std.proofs.Common.{ap, sym, ◌∙◌, subst, add_comm, add_assoc, mul_comm, mul_assoc, mul_right_comm, mul-add, add-mul, arith}
 use Rattle.std.proofs.Math.Nat.{mod-add-mod, add-mod-mod, add-mul-mod_self_right, mod-add-div'}
 use Rattle.std.proofs.Math.Bridge.{le_prop}
