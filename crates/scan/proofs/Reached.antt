@@ -18,5 +18,5 @@ module _ (source panel : ℤ) (x y column : List ℤ) (passed : reach_check sour
       rw (sym (edge_at column i l)) (leb-false (nat_abs panel) (nat_abs (edge_of column i)) (first_none test (length column) none i l))
 
   -- the same of the lists that hold these edges
-  pub kept : (vx vy vc : List ℤ) → vx ≡ x → vy ≡ y → vc ≡ column → Near source vx vy × (Reaches panel vc × Unit {0})
-  kept vx vy vc ex ey ec = rw (ex, ey, ec) (near, (reaches, tt))
+  pub kept : (vx vy vc : List ℤ) → vx ≡ x → vy ≡ y → vc ≡ column → Near source vx vy × Reaches panel vc
+  kept vx vy vc ex ey ec = rw (ex, ey, ec) (near, reaches)

@@ -32,7 +32,7 @@ fn distances_of(source: i32, panel: i32) -> Result<Distances, Refusal>
 
 // How far the farthest edge of an axis lies from 0.
 fn farthest<A: Axis>(axis: &A) -> u32
-    ensures { result ≡ greatest (edges axis.now) }
+    ensures { result ≡ greatest (A.edges axis.now) }
 {
     let mut most: u32 = 0;
     for i in 0..axis.cells() + 1 {
@@ -43,7 +43,7 @@ fn farthest<A: Axis>(axis: &A) -> u32
 
 // The first edge of an axis that lies as far from 0 as the limit, or farther.
 fn first_beyond<A: Axis>(axis: &A, limit: u64) -> Option<usize>
-    ensures { result ≡ first_beyond limit (edges axis.now) }
+    ensures { result ≡ first_beyond limit (A.edges axis.now) }
 {
     for i in 0..axis.cells() + 1 {
         if limit <= axis.edge(i).unsigned_abs() as u64 {

@@ -20,7 +20,7 @@ pub(crate) trait Edges {
 
 // Refuses a count outside its limits (2).
 pub(crate) fn check_count(found: usize, least: usize, most: usize) -> Result<(), Refusal>
-    ensures { Verdict (count_check IfSome least most) (λ _. Unit {0}) result }
+    ensures { Verdict (count_check found least most) (λ _. Unit {0}) result }
 {
     if found < least || most < found {
         Err(Refusal::Count { found, least, most })
@@ -31,8 +31,8 @@ pub(crate) fn check_count(found: usize, least: usize, most: usize) -> Result<(),
 
 // The first edge more than the limit from 0.
 pub(crate) fn first_outside<E: Edges>(edges: &E, limit: u64) -> Option<usize>
-    ensures value { result ≡ first_outside limit (count edges.now) (at edges.now) }
-    ensures within { IfSome result (λ i. i < count edges.now) }
+    ensures value { result ≡ first_outside limit (E.count edges.now) (E.at edges.now) }
+    ensures within { IfSome result (λ i. i < E.count edges.now) }
 {
     for i in 0..edges.len() {
         if edges.get(i).unsigned_abs() > limit {
@@ -44,8 +44,8 @@ pub(crate) fn first_outside<E: Edges>(edges: &E, limit: u64) -> Option<usize>
 
 // The first cell whose upper edge is not above its lower one.
 fn first_not_rising<E: Edges>(edges: &E, cells: usize) -> Option<usize>
-    requires { cells ≡ count edges.now - 1 }
-    ensures value { result ≡ first_not_rising cells (at edges.now) }
+    requires { cells ≡ E.count edges.now - 1 }
+    ensures value { result ≡ first_not_rising cells (E.at edges.now) }
     ensures within { IfSome result (λ i. i < cells) }
 {
     for i in 0..cells {
@@ -58,7 +58,7 @@ fn first_not_rising<E: Edges>(edges: &E, cells: usize) -> Option<usize>
 
 // Refuses edges that lie out of range (5), and then those that do not rise (4).
 pub(crate) fn check_edges<E: Edges>(edges: &E) -> Result<(), Refusal>
-    ensures { Verdict (edges_check (count edges.now) (at edges.now)) (λ _. Unit {0}) result }
+    ensures { Verdict (edges_check (E.count edges.now) (E.at edges.now)) (λ _. Unit {0}) result }
 {
     if let Some(edge) = first_outside(edges, 4_194_304) {
         return Err(Refusal::OutOfRange {

@@ -46,7 +46,7 @@ impl ListedAxis {
 
     // The edges of any axis, listed.
     pub(crate) fn copy_of<A: Axis>(heap: Global, axis: &A) -> Result<ListedAxis, AllocError>
-        ensures { IfOk result (λ a. a.edges.items ≡ edges axis.now) }
+        ensures { IfOk result (λ a. a.edges.items ≡ A.edges axis.now) }
     {
         let mut edges = Vec::new(heap);
         for i in 0..axis.cells() + 1 {

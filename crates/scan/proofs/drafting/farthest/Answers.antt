@@ -1,4 +1,4 @@
-use Rattle.std.proofs.Common.{◌-◌, ◌<◌, max, length, pos, nat_abs, ap, ◌∙◌, arith, w32, SFits, rules}
+use Rattle.std.proofs.Common.{◌<◌, max, length, pos, nat_abs, ap, ◌∙◌, arith, w32, SFits, rules}
 use Rattle.std.proofs.lemmas.Int.{to_z-of_z}
 use Rattle.std.proofs.lemmas.List.{take_all}
 use Rattle.std.proofs.lemmas.List.Sums.{fold_more}
@@ -13,7 +13,7 @@ loop-i-preserved g c =
     let proper = g.met.A.Axis.proper c.args.axis.now in
     let l : i < length es = omega arith in
     let f : SFits w32 c.edge.result = search rules in
-    let size = simp to_z-of_z at c.unsigned-abs.ensures.value ∙ ap nat_abs (c.edge.ensures ∙ edge_at es i l) in
+    let size = simp to_z-of_z at c.unsigned_abs.ensures.value ∙ ap nat_abs (c.edge.ensures ∙ edge_at es i l) in
     let more = fold_more (λ most e. max most (nat_abs e)) 0 es i (pos 0) l in
     let inv = c.loop-i.invariant in
     omega (arith, c.max-most.ensures)

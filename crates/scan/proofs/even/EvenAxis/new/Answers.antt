@@ -4,18 +4,20 @@ use Rattle.std.proofs.lemmas.Int.{to_z-of_z}
 use Rattle.scan.specs.Propers.{even_rises, even_within, count_within, after_none}
 use Rattle.scan.proofs.even.EvenAxis.new.Goals as goal
 
-pub returns-in-err-check-edges : goal.returns-in-err-check-edges
-returns-in-err-check-edges c =
-    let p = err_from_is_err_and c.from-residual-in-err-check-edges.result c.from-residual-in-err-check-edges.ensures.1 in
+pub returns-in_err-check_edges : goal.returns-in_err-check_edges
+returns-in_err-check_edges c =
+    let p = err_from_is_err_and c.from_residual-in_err-check_edges.result c.from_residual-in_err-check_edges.ensures.1 in
     let first = c.ranges.first in
     let pitch = c.ranges.pitch in
-    rw (p.1, p.2) (after_none _ _ c.in-ok-check-count.ensures.0 (simp to_z-of_z at c.in-err-check-edges.ensures))
+    rw (p.1, p.2) (after_none _ _ c.in_ok-check_count.ensures.0 (simp to_z-of_z at c.in_err-check_edges.ensures))
 
-pub invariant-of-result : goal.invariant-of-result
-invariant-of-result c =
+pub invariant_of-result : goal.invariant_of-result
+invariant_of-result c =
     let first = to_z w32 (of_z w32 c.args.first) in
     let pitch = to_z w32 (of_z w32 c.args.pitch) in
-    let passed = c.in-ok-check-edges.ensures.0 in (
-      (count_within c.args.cells 1 512 c.in-ok-check-count.ensures.0).0,
-      (even_rises first pitch c.args.cells passed, (even_within first pitch c.args.cells passed, tt)),
-    )
+    let passed = c.in_ok-check_edges.ensures.0 in
+    record {
+      some = (count_within c.args.cells 1 512 c.in_ok-check_count.ensures.0).0;
+      rises = even_rises first pitch c.args.cells passed;
+      within = even_within first pitch c.args.cells passed;
+    }

@@ -4,8 +4,8 @@ use Rattle.scan.specs.Axes.{even_edges}
 use Rattle.scan.specs.Propers.{even_length, even_edge_at}
 use Rattle.scan.proofs.even.EvenAxisAxis.edge.Goals as goal
 
-pub overflow-cast-result : goal.overflow-cast-result
-overflow-cast-result c =
+pub overflow_cast-result : goal.overflow_cast-result
+overflow_cast-result c =
     let a = c.args.self.now.spaced in
     let long = even_length a.first a.pitch a.cells in
     let same = even_edge_at a.first a.pitch a.cells c.min.result (omega arith) in

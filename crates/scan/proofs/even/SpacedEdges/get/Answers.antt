@@ -14,8 +14,8 @@ edge_fits e p i fe fp few =
       within_fits (e +ℤ pos i *ℤ p) (2 ^ 31 + 512 * 2 ^ 31) (omega arith) (plus_within e (pos i *ℤ p) (2 ^ 31) (512 * 2 ^ 31) (omega (arith, ints)) size),
     )
 
-pub overflow-mul-result : goal.overflow-mul-result
-overflow-mul-result c =
+pub overflow_mul-result : goal.overflow_mul-result
+overflow_mul-result c =
     let s = c.args.self.now in
     let p : SFits w32 s.pitch = search rules in
     let e : SFits w32 s.first = search rules in
@@ -23,8 +23,8 @@ overflow-mul-result c =
     let few : c.args.i < 2 ^ 63 = omega arith in
     simp (to_z-of_z, to_z_pos) (edge_fits s.first s.pitch c.args.i e p (omega arith)).0
 
-pub overflow-add-result : goal.overflow-add-result
-overflow-add-result c =
+pub overflow_add-result : goal.overflow_add-result
+overflow_add-result c =
     let s = c.args.self.now in
     let p : SFits w32 s.pitch = search rules in
     let e : SFits w32 s.first = search rules in
@@ -46,4 +46,4 @@ returns c =
     let f = edge_fits s.first s.pitch c.args.i e p (omega arith) in
     let product = f.0 in
     let sum = f.1 in
-    simp (to_z-of_z, to_z_pos) (to_z-of_z w64 (s.first +ℤ pos c.args.i *ℤ s.pitch) sum)
+    simp (to_z-of_z, to_z_pos)

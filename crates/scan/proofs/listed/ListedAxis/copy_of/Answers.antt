@@ -11,15 +11,15 @@ loop-i-preserved g c =
     let proper = g.met.A.Axis.proper c.args.axis.now in
     let f : SFits w32 c.edge.result = search rules in
     edges_more es (vec_items c.loop-i.edges) (vec_items c.push.new.self) c.loop-i.i c.edge.result (omega arith) c.loop-i.invariant
-    (simp to_z-of_z at c.in-ok-push.ensures.items) c.edge.ensures
+    (simp to_z-of_z at c.in_ok-push.ensures.items) c.edge.ensures
 
-pub invariant-of-result : goal.invariant-of-result
-invariant-of-result g c =
+pub invariant_of-result : goal.invariant_of-result
+invariant_of-result g c =
     let es = g.A.Axis.edges c.args.axis.now in
     let proper = g.met.A.Axis.proper c.args.axis.now in
     let all = c.loop-i.invariant ∙ take_all c.loop-i.i es (omega arith) in
     let p = subst Proper (sym all) proper in
-    (p.least, (p.most, (p.rises, (p.within, tt))))
+    record { least = p.least; most = p.most; rises = p.rises; within = p.within }
 
 pub returns : goal.returns
 returns g c =

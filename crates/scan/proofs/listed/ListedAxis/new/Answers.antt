@@ -2,8 +2,8 @@ use Rattle.std.proofs.Common.{vec_items}
 use Rattle.scan.specs.Propers.{listed_proper}
 use Rattle.scan.proofs.listed.ListedAxis.new.Goals as goal
 
-pub invariant-of-result : goal.invariant-of-result
-invariant-of-result c =
-    let p = listed_proper c.args.edges.now (vec_items c.in-ok-to-vec.field-0) (c.in-ok-to-vec.ensures.items-if-clones-equal (λ x y e. e))
-    c.in-ok-check-count.ensures.0 c.in-ok-check-edges.ensures.0 in
-    (p.least, (p.most, (p.rises, (p.within, tt))))
+pub invariant_of-result : goal.invariant_of-result
+invariant_of-result c =
+    let p = listed_proper c.args.edges.now (vec_items c.in_ok-to_vec.field-0) (c.in_ok-to_vec.ensures.items_if_clones_equal (λ x y e. e))
+    c.in_ok-check_count.ensures.0 c.in_ok-check_edges.ensures.0 in
+    record { least = p.least; most = p.most; rises = p.rises; within = p.within }
