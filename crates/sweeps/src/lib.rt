@@ -1,4 +1,6 @@
 //! Matched projection and backprojection sweeps.
+#![tactic(auto)]
+
 pub mod backprojection;
 mod block;
 mod call;

@@ -6,7 +6,7 @@ use Rattle.sweeps.proofs.backprojection.back.Goals as goal
 pub sweep-requires : goal.sweep-requires
 sweep-requires g c =
     let a = c.args in
-    let x = c.in-ok-call.ensures in
+    let x = c.in_ok-call.ensures in
     record {
       sized = (
         part_sized g.met.V.Value.lawful (plan_of a.plan.now) a.view a.factor a.volume.now a.working.now _ _ _ x,
@@ -17,7 +17,7 @@ sweep-requires g c =
 pub returns : goal.returns
 returns g c =
     let a = c.args in
-    let x = c.in-ok-call.ensures in
+    let x = c.in_ok-call.ensures in
     record {
       answer = sym x.accepted;
       volume = back_leaves g.met.V.Value.lawful (plan_of a.plan.now) a.view a.factor a.volume.now a.working.now _ _ _ x c.sweep.new.to c.sweep.auto.to c.sweep.ensures;

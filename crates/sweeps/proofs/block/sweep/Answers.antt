@@ -19,7 +19,7 @@ loop-first-preserved g c =
       omega arith,
       gained_joined g.met.V.Value.lawful a.pass.now.factor a.pass.now.from.now a.pass.now.way (whole_column L) a.to.now
           (summed (whole_column L) c.loop-first.first) (block_weight L c.loop-first.first c.min-count.result) (summed (whole_column L) (c.loop-first.first + c.min-count.result))
-          c.loop-first.to c.sweep-block.new.to c.loop-first.auto.to (block_more L c.loop-first.first c.min-count.result) c.loop-first.invariant.1 c.sweep-block.ensures,
+          c.loop-first.to c.sweep_block.new.to c.loop-first.auto.to (block_more L c.loop-first.first c.min-count.result) c.loop-first.invariant.1 c.sweep_block.ensures,
     )
 
 pub returns : goal.returns

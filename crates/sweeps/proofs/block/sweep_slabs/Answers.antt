@@ -9,8 +9,8 @@ loop-number-init g c =
     let L = g.L.Landed.landing a.pass.now.view.now in
     summed_none g.met.V.Value.lawful a.pass.now.factor a.pass.now.from.now a.pass.now.way (slab_weight L a.block.first a.block.count) a.to.now
 
-pub sweep-slab-requires : goal.sweep-slab-requires
-sweep-slab-requires g c =
+pub sweep_slab-requires : goal.sweep_slab-requires
+sweep_slab-requires g c =
     let a = c.args in
     let L = g.L.Landed.landing a.pass.now.view.now in
     let e = c.slabs-slabs.ensures in
@@ -25,7 +25,7 @@ loop-number-preserved g c =
     let a = c.args in
     let L = g.L.Landed.landing a.pass.now.view.now in
     summed_more g.met.V.Value.lawful a.pass.now.factor a.pass.now.from.now a.pass.now.way (slab_weight L a.block.first a.block.count) a.to.now
-    c.loop-number.number c.loop-number.to c.sweep-slab.new.to c.loop-number.auto.to c.loop-number.invariant c.sweep-slab.ensures
+    c.loop-number.number c.loop-number.to c.sweep_slab.new.to c.loop-number.auto.to c.loop-number.invariant c.sweep_slab.ensures
 
 pub returns : goal.returns
 unfolding block_weight

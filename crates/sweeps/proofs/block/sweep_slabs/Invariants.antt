@@ -6,4 +6,4 @@ use Rattle.sweeps.proofs.block.sweep_slabs.Given as goal
 abbrev pub invariant-loop-number : goal.invariant-loop-number
 invariant-loop-number g l =
     let L = g.L.Landed.landing l.pass.view.now in
-    Gained g.row.V-Value.ops l.pass.factor l.pass.from.now (weights l.pass.way (summed (slab_weight L l.block.first l.block.count) l.number)) l.initial.to l.to
+    Gained g.V.Value.ops l.pass.factor l.pass.from.now (weights l.pass.way (summed (slab_weight L l.block.first l.block.count) l.number)) l.initial.to l.to

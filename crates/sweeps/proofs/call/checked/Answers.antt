@@ -9,9 +9,9 @@ use Rattle.scan.specs.Plans.{panel_of}
 use Rattle.sweeps.proofs.CallFacts.{view_end}
 use Rattle.sweeps.proofs.call.checked.Goals as goal
 
-pub returns-in-default : goal.returns-in-default
-returns-in-default c =
-    no_view (system_of (plan_of c.args.plan.now)) c.args.view c.args.volume c.args.working c.in-default.ensures
+pub returns-in_default : goal.returns-in_default
+returns-in_default c =
+    no_view (system_of (plan_of c.args.plan.now)) c.args.view c.args.volume c.args.working c.in_default.ensures
     ∙ ap (λ n. Some (NoView c.args.view n)) (sym c.views.ensures.value)
 
 pub returns-then-volume-voxels : goal.returns-then-volume-voxels

@@ -6,7 +6,7 @@ use Rattle.sweeps.proofs.carry.carry.Goals as goal
 
 pub returns : goal.returns
 returns g c p l =
-    let o = g.row.V-Value.ops in
+    let o = g.V.Value.ops in
     let a = c.args in
     c.scatter.ensures p l
     ∙ ap (o.plus (at o a.to.now p))

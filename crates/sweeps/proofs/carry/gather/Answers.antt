@@ -11,14 +11,14 @@ loop-i-init g c =
 
 pub loop-i-preserved : goal.loop-i-preserved
 loop-i-preserved g c =
-    let o = g.row.V-Value.ops in
+    let o = g.V.Value.ops in
     let s = c.args.strip in
     let i = c.loop-i.i in
     let within : s.start + i * s.stride < length c.args.from.now = c.requires.inside i (omega arith) in
     let item = get_or_read c.args.from.now (s.start + i * s.stride) _ within c.index-from-strip.is o.zero in
     c.plus-sum.ensures
     ∙ gather_more g.met.V.Value.lawful s.start s.stride (share s.edges.now s.low s.high) c.args.from.now i c.loop-i.sum c.multiple.result
-    within c.loop-i.invariant (c.multiple.ensures ∙ ap₂ o.multiple item c.share-of.ensures)
+    within c.loop-i.invariant (c.multiple.ensures ∙ ap₂ o.multiple item c.share_of.ensures)
 
 pub returns : goal.returns
 returns g c =

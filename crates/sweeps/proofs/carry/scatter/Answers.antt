@@ -11,14 +11,14 @@ loop-i-init g c =
 
 pub loop-i-preserved : goal.loop-i-preserved
 loop-i-preserved g c =
-    let o = g.row.V-Value.ops in
+    let o = g.V.Value.ops in
     let s = c.args.strip in
     let i = c.loop-i.i in
     let inside = c.requires.inside i (omega arith) in
     let within : s.start + i * s.stride < length c.loop-i.to = omega arith in
     let item = get_or_read c.loop-i.to (s.start + i * s.stride) _ within c.index-to-place.is o.zero in
     scatter_more g.met.V.Value.lawful s.start s.stride (share s.edges.now s.low s.high) c.args.to.now c.args.value i c.loop-i.to c.plus.result
-    within c.loop-i.invariant (c.plus.ensures ∙ ap₂ o.plus item (c.multiple.ensures ∙ ap (o.multiple c.args.value) c.share-of.ensures))
+    within c.loop-i.invariant (c.plus.ensures ∙ ap₂ o.plus item (c.multiple.ensures ∙ ap (o.multiple c.args.value) c.share_of.ensures))
 
 pub returns : goal.returns
 returns g c =

@@ -4,8 +4,8 @@ use Rattle.sweeps.proofs.Beams.{tabled_rising, weights_none, column_none, column
 use Rattle.sweeps.proofs.Gains.{gained_none}
 use Rattle.sweeps.proofs.column.sweep_column.Goals as goal
 
-pub cross-line-cross-requires : goal.cross-line-cross-requires
-cross-line-cross-requires g c =
+pub cross_line-cross-requires : goal.cross_line-cross-requires
+cross_line-cross-requires g c =
     let a = c.args in
     let L = g.L.Landed.landing a.pass.now.view.now in
     let sound = g.met.L.Landed.sound a.pass.now.view.now in
@@ -20,14 +20,14 @@ pub returns-then-cross : goal.returns-then-cross
 returns-then-cross g c =
     let a = c.args in
     let L = g.L.Landed.landing a.pass.now.view.now in
-    record { near = near_crosses L a.slab a.column c.requires.slab c.requires.column c.cross-line-cross.result c.cross-line-cross.ensures; gained = c.sweep-heights.ensures }
+    record { near = near_crosses L a.slab a.column c.requires.slab c.requires.column c.cross_line-cross.result c.cross_line-cross.ensures; gained = c.sweep_heights.ensures }
 
 pub returns-else-cross : goal.returns-else-cross
 returns-else-cross g c =
     let a = c.args in
     let L = g.L.Landed.landing a.pass.now.view.now in
     record {
-      near = near_crosses L a.slab a.column c.requires.slab c.requires.column c.cross-line-cross.result c.cross-line-cross.ensures;
+      near = near_crosses L a.slab a.column c.requires.slab c.requires.column c.cross_line-cross.result c.cross_line-cross.ensures;
       gained = gained_none g.met.V.Value.lawful a.pass.now.factor a.pass.now.from.now (weights a.pass.now.way (column_weight L a.slab.number a.column.number)) a.to.now
-          (λ q p h k. weights_none a.pass.now.way _ (column_none L a.slab a.column c.requires.slab c.requires.column c.cross-line-cross.result c.cross-line-cross.ensures c.if-cross.false) q p);
+          (λ q p h k. weights_none a.pass.now.way _ (column_none L a.slab a.column c.requires.slab c.requires.column c.cross_line-cross.result c.cross_line-cross.ensures c.if-cross.false) q p);
     }

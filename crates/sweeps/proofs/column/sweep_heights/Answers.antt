@@ -9,8 +9,8 @@ loop-height-init g c =
     let L = g.L.Landed.landing a.pass.now.view.now in
     (omega arith, summed_none g.met.V.Value.lawful a.pass.now.factor a.pass.now.from.now a.pass.now.way (beam_weight L a.slab.number a.column.number) a.to.now)
 
-pub sweep-height-near-requires : goal.sweep-height-near-requires
-sweep-height-near-requires g c =
+pub sweep_height-near-requires : goal.sweep_height-near-requires
+sweep_height-near-requires g c =
     let a = c.args in
     let L = g.L.Landed.landing a.pass.now.view.now in
     let len = c.requires.slab.heights.0 in
@@ -27,9 +27,9 @@ pub loop-height-preserved : goal.loop-height-preserved
 loop-height-preserved g c =
     let a = c.args in
     let L = g.L.Landed.landing a.pass.now.view.now in (
-      c.sweep-height-near.ensures.near,
+      c.sweep_height-near.ensures.near,
       summed_more g.met.V.Value.lawful a.pass.now.factor a.pass.now.from.now a.pass.now.way (beam_weight L a.slab.number a.column.number) a.to.now
-          c.loop-height.height c.loop-height.to c.sweep-height-near.new.to c.loop-height.auto.to c.loop-height.invariant.1 c.sweep-height-near.ensures.gained,
+          c.loop-height.height c.loop-height.to c.sweep_height-near.new.to c.loop-height.auto.to c.loop-height.invariant.1 c.sweep_height-near.ensures.gained,
     )
 
 pub returns : goal.returns

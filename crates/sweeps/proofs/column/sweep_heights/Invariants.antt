@@ -8,4 +8,4 @@ abbrev pub invariant-loop-height : goal.invariant-loop-height
 invariant-loop-height g l =
     let L = g.L.Landed.landing l.pass.view.now in
     (l.near ≤ L.rows)
-    × Gained g.row.V-Value.ops l.pass.factor l.pass.from.now (weights l.pass.way (summed (beam_weight L l.slab.number l.column.number) l.height)) l.initial.to l.to
+    × Gained g.V.Value.ops l.pass.factor l.pass.from.now (weights l.pass.way (summed (beam_weight L l.slab.number l.column.number) l.height)) l.initial.to l.to

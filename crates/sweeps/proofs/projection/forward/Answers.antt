@@ -4,16 +4,16 @@ use Rattle.scan.specs.Meanings.{plan_of}
 use Rattle.sweeps.proofs.CallFacts.{volume_sized, part_sized, forward_leaves}
 use Rattle.sweeps.proofs.projection.forward.Goals as goal
 
-pub offset-bounds-working-call : goal.offset-bounds-working-call
-offset-bounds-working-call g c =
-    let h = c.in-ok-call.ensures.within in
-    let le : c.in-ok-call.call.start ≤ length c.args.working.now = omega arith in
+pub offset_bounds-working-call : goal.offset_bounds-working-call
+offset_bounds-working-call g c =
+    let h = c.in_ok-call.ensures.within in
+    let le : c.in_ok-call.call.start ≤ length c.args.working.now = omega arith in
     search (rules, scaled_fits≤)
 
 pub sweep-requires : goal.sweep-requires
 sweep-requires g c =
     let a = c.args in
-    let x = c.in-ok-call.ensures in
+    let x = c.in_ok-call.ensures in
     record {
       sized = (
         volume_sized g.met.V.Value.lawful (plan_of a.plan.now) a.view a.factor a.volume.now a.working.now _ _ _ x,
@@ -24,7 +24,7 @@ sweep-requires g c =
 pub returns : goal.returns
 returns g c =
     let a = c.args in
-    let x = c.in-ok-call.ensures in
+    let x = c.in_ok-call.ensures in
     record {
       answer = sym x.accepted;
       working = forward_leaves g.met.V.Value.lawful (plan_of a.plan.now) a.view a.factor a.volume.now a.working.now _ _ _ x c.sweep.new.to c.sweep.auto.to c.sweep.ensures;

@@ -8,6 +8,6 @@ returns c =
     let fl = c.ranges.low in
     record {
       bound = omega arith;
-      passed = edges_before c.args.edges.now c.requires.rises c.args.low c.stepped-down.result c.stepped-up.result (omega arith) (omega arith)
-          (simp to_z-of_z at c.stepped-down.ensures.below) (simp to_z-of_z at c.stepped-up.ensures.passed);
+      passed = edges_before c.args.edges.now c.requires.rises c.args.low c.stepped_down.result c.stepped_up.result (omega arith) (omega arith)
+          (simp to_z-of_z at c.stepped_down.ensures.below) (simp to_z-of_z at c.stepped_up.ensures.passed);
     }

@@ -12,8 +12,8 @@ returns c =
     let fh = c.ranges.high in
     let a = c.args in
     let es = a.edges.now in
-    let first = c.run-start-first.result in
-    let before = before_run es c.requires.rises a.low a.high c.requires.ordered first (omega arith) (simp to_z-of_z at c.run-start-first.ensures.passed) in
+    let first = c.run_start-first.result in
+    let before = before_run es c.requires.rises a.low a.high c.requires.ordered first (omega arith) (simp to_z-of_z at c.run_start-first.ensures.passed) in
     let covers : Covers (record { start = a.start; stride = a.stride; edges = a.edges; low = a.low; high = a.high; first = first; last = c.if-low-high.last }) =
     elim c.if-low-high.branch [
       | then-low-high w ↦
@@ -21,10 +21,10 @@ returns c =
           record {
             ordered = c.requires.ordered;
             rises = c.requires.rises;
-            run = omega (arith, w.run-end-last.ensures.bound.0);
-            ends = omega (arith, w.run-end-last.ensures.bound.1);
+            run = omega (arith, w.run_end-last.ensures.bound.0);
+            ends = omega (arith, w.run_end-last.ensures.bound.1);
             before = before;
-            after = λ i le. after_run es c.requires.rises a.low a.high c.requires.ordered w.run-end-last.result (simp to_z-of_z at w.run-end-last.ensures.beyond) i (omega arith);
+            after = λ i le. after_run es c.requires.rises a.low a.high c.requires.ordered w.run_end-last.result (simp to_z-of_z at w.run_end-last.ensures.beyond) i (omega arith);
           }
       | else-low-high w ↦
           let is = w.last-is in

@@ -10,8 +10,8 @@ loop-offset-init g c =
     let L = g.L.Landed.landing a.pass.now.view.now in
     (omega arith, summed_none g.met.V.Value.lawful a.pass.now.factor a.pass.now.from.now a.pass.now.way (λ d. column_weight L a.slab.number (a.block.first + d)) a.to.now)
 
-pub column-of-requires : goal.column-of-requires
-column-of-requires g c =
+pub column_of-requires : goal.column_of-requires
+column_of-requires g c =
     let a = c.args in
     let L = g.L.Landed.landing a.pass.now.view.now in
     let most = (g.met.L.Landed.sound a.pass.now.view.now).columns.1 in
@@ -19,15 +19,15 @@ column-of-requires g c =
     let len = c.requires.block.columns.0 in
     record { number = omega arith; columns = omega arith; rows = rows_end L a.block c.requires.block c.loop-offset.offset (omega arith) }
 
-pub sweep-column-near-requires : goal.sweep-column-near-requires
-sweep-column-near-requires g c =
+pub sweep_column-near-requires : goal.sweep_column-near-requires
+sweep_column-near-requires g c =
     let a = c.args in
     let L = g.L.Landed.landing a.pass.now.view.now in
-    let e = c.column-of.ensures in
+    let e = c.column_of.ensures in
     record {
       sized = subst (λ n. Sized a.pass.now.way L (length a.pass.now.from.now) n) (sym c.loop-offset.auto.to) c.requires.sized;
       slab = c.requires.slab;
-      column = block_column L a.block c.requires.block c.loop-offset.offset (omega arith) c.column-of.result e.number e.stride e.low e.high e.rows;
+      column = block_column L a.block c.requires.block c.loop-offset.offset (omega arith) c.column_of.result e.number e.stride e.low e.high e.rows;
       near = c.loop-offset.invariant.0;
     }
 
@@ -36,12 +36,12 @@ loop-offset-preserved g c =
     let a = c.args in
     let L = g.L.Landed.landing a.pass.now.view.now in
     let laws = g.met.V.Value.lawful in (
-      c.sweep-column-near.ensures.near,
+      c.sweep_column-near.ensures.near,
       summed_more laws a.pass.now.factor a.pass.now.from.now a.pass.now.way (λ d. column_weight L a.slab.number (a.block.first + d)) a.to.now
-          c.loop-offset.offset c.loop-offset.to c.sweep-column-near.new.to c.loop-offset.auto.to c.loop-offset.invariant.1
+          c.loop-offset.offset c.loop-offset.to c.sweep_column-near.new.to c.loop-offset.auto.to c.loop-offset.invariant.1
           (gained_as laws a.pass.now.factor a.pass.now.from.now a.pass.now.way (λ d. column_weight L a.slab.number (a.block.first + d)) c.loop-offset.to
-          (column_weight L a.slab.number c.column-of.result.number) (column_weight L a.slab.number (a.block.first + c.loop-offset.offset)) c.sweep-column-near.new.to
-          (λ x c'. ap (λ k. column_weight L a.slab.number k x c') c.column-of.ensures.number) c.sweep-column-near.ensures.gained),
+          (column_weight L a.slab.number c.column_of.result.number) (column_weight L a.slab.number (a.block.first + c.loop-offset.offset)) c.sweep_column-near.new.to
+          (λ x c'. ap (λ k. column_weight L a.slab.number k x c') c.column_of.ensures.number) c.sweep_column-near.ensures.gained),
     )
 
 pub returns : goal.returns

@@ -8,4 +8,4 @@ abbrev pub invariant-loop-offset : goal.invariant-loop-offset
 invariant-loop-offset g l =
     let L = g.L.Landed.landing l.pass.view.now in
     (l.near ≤ L.crosses)
-    × Gained g.row.V-Value.ops l.pass.factor l.pass.from.now (weights l.pass.way (summed (λ d. column_weight L l.slab.number (l.block.first + d)) l.offset)) l.initial.to l.to
+    × Gained g.V.Value.ops l.pass.factor l.pass.from.now (weights l.pass.way (summed (λ d. column_weight L l.slab.number (l.block.first + d)) l.offset)) l.initial.to l.to
