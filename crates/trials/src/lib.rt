@@ -1,4 +1,6 @@
 //! Trial runs of the library's public calls: worked figures, both sides of the limits, and every refusal once.
+#![tactic(auto)]
+
 #[cfg(test)]
 mod plans;
 #[cfg(test)]
