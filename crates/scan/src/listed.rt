@@ -2,7 +2,6 @@
 ghost use Rattle.std.specs.Prelude.{◌≡◌, ◌≤◌, length, pos, IfOk, slice_index_or};
 ghost use Rattle.scan.specs.Axes.{Rises, Within};
 ghost use Rattle.scan.specs.Checks.{Outcome, listed_check};
-ghost use Rattle.std.proofs.Common.{rules, arith};
 
 use crate::axis::Axis;
 use crate::edges::{Edges, check_count, check_edges};
@@ -59,7 +58,7 @@ impl ListedAxis {
 impl Axis for ListedAxis {
     ghost edges = { λ a. a.edges.items };
 
-    ghost proper = { first_of (Prim.search rules, Prim.grind (arith, Self.row.coded.inj)) };
+    ghost proper = { λ a. record { least = a.least; most = a.most; rises = a.rises; within = a.within } };
 
     fn cells(&self) -> usize {
         self.edges.len() - 1
