@@ -1,5 +1,5 @@
 -- What is checked of the edges of an axis, in which order, and the refusal that follows.
-use Rattle.std.specs.Prelude.{◌≡◌, ℕ, zero, suc, ◌+◌, ◌-◌, Bool, cond, ◌||◌, ltb, List, length, ℤ, pos, Some, None, Ok, Err, Option, Result, int_le, nat_lt, slice_index_or, unsigned_abs}
+use Rattle.std.specs.Prelude.{◌≡◌, ℕ, zero, suc, ◌+◌, ◌-◌, Bool, cond, ◌||◌, List, length, ℤ, pos, Some, None, Ok, Err, Option, Result, int_le, nat_lt, slice_index_or, unsigned_abs}
 use Rattle.std.specs.Option.{option_or, option_map}
 use Rattle.scan.specs.Axes.{even_edge}
 use Rattle.scan.specs.declared.failure.Failure.{Failure}
@@ -29,7 +29,7 @@ first_where test (suc n) = option_or (first_where test n) (cond (test n) (Some n
 
 -- The first of n edges, each by its number, that lies more than the limit from 0.
 abbrev pub first_outside : ℕ → ℕ → (ℕ → ℤ) → Option ℕ
-first_outside limit n edge = first_where (λ i. ltb limit (unsigned_abs (edge i))) n
+first_outside limit n edge = first_where (λ i. nat_lt limit (unsigned_abs (edge i))) n
 
 -- The first of n cells whose upper edge is not above its lower one.
 abbrev pub first_not_rising : ℕ → (ℕ → ℤ) → Option ℕ

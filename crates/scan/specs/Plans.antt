@@ -1,5 +1,5 @@
 -- What a draft and a plan say of a scan, what is checked of it, and where the edges of its views land.
-use Rattle.std.specs.Prelude.{ℕ, ◌+◌, ◌-◌, ◌*◌, ◌^◌, ◌<◌, ◌≤◌, min, max, ◌||◌, leb, List, [], ◌∷◌, ◌++◌, length, ℤ, pos, ◌+ℤ◌, ◌≤ℤ◌, fold, Option, int_lt, nat_le, slice_index, slice_index_or, unsigned_abs}
+use Rattle.std.specs.Prelude.{ℕ, ◌+◌, ◌-◌, ◌*◌, ◌^◌, ◌<◌, ◌≤◌, min, max, ◌||◌, List, [], ◌∷◌, ◌++◌, length, ℤ, pos, ◌+ℤ◌, ◌≤ℤ◌, fold, Option, int_lt, nat_le, slice_index, slice_index_or, unsigned_abs}
 use Rattle.std.specs.Option.{option_or, option_map}
 use Rattle.geometry.specs.declared.direction.SlabAxis.{SlabAxis}
 use Rattle.geometry.specs.Landed.{slab_sum, cross_edge, height_edge, column_edge, row_edge}
@@ -50,7 +50,7 @@ widest x y = max (greatest x) (greatest y)
 
 -- The first edge that lies as far from 0 as the limit, or farther.
 abbrev pub first_beyond : ℕ → List ℤ → Option ℕ
-first_beyond limit es = first_where (λ i. leb limit (unsigned_abs (edge_of es i))) (length es)
+first_beyond limit es = first_where (λ i. nat_le limit (unsigned_abs (edge_of es i))) (length es)
 
 -- 6 for D outside 1 to 2^24, and then 6 for F outside D to 2^25.
 abbrev pub distances_check : ℤ → ℤ → Option Refusal

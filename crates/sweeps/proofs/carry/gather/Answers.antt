@@ -1,4 +1,4 @@
-use Rattle.std.proofs.Common.{◌≡◌, ◌+◌, ◌*◌, ◌<◌, length, sym, ◌∙◌, ap₂, arith}
+use Rattle.std.proofs.Common.{◌≡◌, ◌+◌, ◌*◌, ◌<◌, length, sym, ◌∙◌, ap₂, arith, rules}
 use Rattle.std.proofs.lemmas.List.{get_or_read}
 use Rattle.sweeps.specs.Strips.{share, strip_cells}
 use Rattle.sweeps.proofs.Laid.{gather_none, gather_more, gather_all}
@@ -16,7 +16,8 @@ loop-i-preserved g c =
     let i = c.loop-i.i in
     let within : s.start + i * s.stride < length c.args.from.now = c.requires.inside i (omega arith) in
     let item = get_or_read c.args.from.now (s.start + i * s.stride) _ within c.index-from-strip.is o.zero in
-    c.plus-sum.ensures
+    let added : c.plus-sum.result ≡ o.plus c.loop-i.sum c.multiple.result = search rules in
+    added
     ∙ gather_more g.met.V.Value.lawful s.start s.stride (share s.edges.now s.low s.high) c.args.from.now i c.loop-i.sum c.multiple.result
     within c.loop-i.invariant (c.multiple.ensures ∙ ap₂ o.multiple item c.share_of.ensures)
 

@@ -1,4 +1,4 @@
-use Rattle.std.proofs.Common.{◌≡◌, ℕ, ◌+◌, false, cond, get_or, drop, ap, arith}
+use Rattle.std.proofs.Common.{◌≡◌, ℕ, ◌+◌, Bool, false, cond, get_or, drop, ap, arith}
 use Rattle.std.proofs.lemmas.List.{drop_more, drop_all}
 use Rattle.sweeps.specs.Calls.{tallied}
 use Rattle.values.specs.Reaches.{reached}
@@ -14,8 +14,8 @@ loop-value-preserved c =
     let inv = c.loop-value.invariant.0 in
     let most = c.loop-value.invariant.1 in
     elim c.if-value.branch [
-      | then-value w ↦ let yes : ◌≡◌ {A = ℕ} (cond here.yes 1 0) 1 = ap (λ b. cond b 1 0) w.if-value.true in let is = w.count-is in (omega arith, omega arith)
-      | else-value w ↦ let no : ◌≡◌ {A = ℕ} (cond here.yes 1 0) 0 = ap (λ b. cond b 1 0) w.if-value.false in let is = w.count-is in (omega arith, omega arith)
+      | then-value w ↦ let yes = ap (λ (b : Bool). cond {A = ℕ} b 1 0) w.if-value.true in let is = w.count-is in (omega arith, omega arith)
+      | else-value w ↦ let no = ap (λ (b : Bool). cond {A = ℕ} b 1 0) w.if-value.false in let is = w.count-is in (omega arith, omega arith)
     ]
 
 pub returns : goal.returns
