@@ -1,7 +1,6 @@
 //! A small plan, projected forward and back.
 #![tactic(auto)]
 
-use scan::axis::Axis;
 use scan::draft::Draft;
 use scan::even::EvenAxis;
 use scan::failure::Failure;
