@@ -47,7 +47,7 @@ steep d = record { least = d.least; most = d.most; side = d.side }
 pub round_at_each : (q : ℕ) (s c : ℤ) → q < 64 → s ≡ sin_of q → c ≡ cos_of q → Round s c
 round_at_each q s c h e f = subst (λ x. Round x c) (sym e) (subst (λ y. Round (sin_of q) y) (sym f) (all_round q h))
 
--- the slab axis and the two parts are those of the step q
+-- the slab axis, a and b are those of the step q
 pub record Points (q : ℕ) (slabs : SlabAxis) (a b : ℤ) : Type 0 where
   pub slabs_is : slabs ≡ slab_axis q
   pub main_is : a ≡ main_of q

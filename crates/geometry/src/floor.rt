@@ -1,5 +1,5 @@
 // Division that rounds down.
-ghost use Rattle.std.specs.Prelude.{◌≡◌, ℕ, ◌^◌, ◌<◌, ◌≤◌, unsigned_abs};
+ghost use Rattle.std.specs.Prelude.{◌≡◌, ◌^◌, ◌<◌, ◌≤◌, unsigned_abs};
 ghost use Rattle.geometry.specs.Floor.{floor_div, Floor};
 
 // The greatest whole number not above n / d, and 0 where d is 0.

@@ -20,7 +20,7 @@ fn slab_sum(slabs: SlabAxis, low: Edge, high: Edge) -> i64
     }
 }
 
-// The divisor of a voxel's edges: twice the distance from the source to the middle of the slab, along the slab axis.
+// The divisor of U and W: 2R times the signed distance along the slab axis between the source and the slab's middle.
 fn depth_of(reach: Distances, toward: Direction, slab: i64) -> i64
     requires { unsigned_abs slab ≤ 8388608 }
     ensures value { result ≡ depth reach.source toward.a slab }

@@ -58,7 +58,7 @@ distances_check source panel =
     option_or (refused_where (int_lt source (pos 1) || int_lt (pos 16777216) source) (SourceDistance source))
     (refused_where (int_lt panel source || int_lt (pos 33554432) panel) (PanelDistance panel source))
 
--- The source stands farther out than twice any edge of x and y, and the panel farther than any edge of its columns.
+-- 7 where D is at most twice the farthest edge of x and y, and then 8 for the first edge of the columns that lies as far from 0 as F, or farther.
 abbrev pub reach_check : ℤ → ℤ → List ℤ → List ℤ → List ℤ → Option Refusal
 reach_check source panel x y column =
     option_or (refused_where (nat_le (unsigned_abs source) (2 * widest x y)) (SourceTooNear source (pos (widest x y))))
@@ -78,7 +78,7 @@ view_check views step =
 abbrev pub Near : ℤ → List ℤ → List ℤ → Type 0
 Near source x y = 2 * widest x y < unsigned_abs source
 
--- Every edge of the columns lies nearer the panel's middle than the source does.
+-- Every edge of the columns lies less than F from 0.
 abbrev pub Reaches : ℤ → List ℤ → Type 0
 Reaches panel column = (i : ℕ) → i < length column → unsigned_abs (slice_index_or column i (pos 0)) < unsigned_abs panel
 
@@ -118,11 +118,11 @@ slab_edges scan along = by_slabs along scan.x scan.y
 abbrev pub cross_edges : Scan → SlabAxis → List ℤ
 cross_edges scan along = by_slabs along scan.y scan.x
 
--- Twice the middle of a slab, with the sign that its axis gives it.
+-- Q of slab j, which is twice its middle with the sign that its axis gives it.
 abbrev pub slab_middle : Scan → SlabAxis → ℕ → ℤ
 slab_middle scan along j = slab_sum along (low_of (slab_edges scan along) j) (high_of (slab_edges scan along) j)
 
--- Twice the middle of a column.
+-- K of column k, the sum of its two edges: twice its middle.
 abbrev pub column_middle : Scan → ℕ → ℤ
 column_middle scan k = low_of scan.column k +ℤ high_of scan.column k
 

@@ -53,7 +53,7 @@ fn first_beyond<A: Axis>(axis: &A, limit: u64) -> Option<usize>
     None
 }
 
-// Refuses what the distances do not reach.
+// Refuses a source too near the volume (7), and then a column edge as far from 0 as F, or farther (8).
 fn check_reach<X: Axis, Y: Axis, C: Axis>(
     distances: Distances,
     x: &X,
@@ -79,7 +79,7 @@ fn check_reach<X: Axis, Y: Axis, C: Axis>(
     Ok(())
 }
 
-// Refuses a step that there is not, and then a view more than a draft may have.
+// Refuses a step that there is not (9), and then a view more than a draft may have (21).
 fn check_view(views: usize, step: i32) -> Result<Step, Refusal>
     ensures { Verdict (view_check views step) (λ s. s.number ≡ unsigned_abs step) result }
 {
@@ -129,7 +129,7 @@ impl Draft {
         })
     }
 
-    // Adds a view from a step of the turn, and says its number.
+    // Adds a view from a step of the turn, and says its number. Checks 9, 21.
     pub fn add_view(&mut self, step: i32) -> Result<usize, Failure>
         ensures value { Outcome (view_check (length (draft_of self.old).steps) step) (λ n. n ≡ length (draft_of self.old).steps) result }
         ensures after { draft_of self.new ≡ elim result [ Ok n ↦ with_view (draft_of self.old) (unsigned_abs step) | Err e ↦ draft_of self.old ] }

@@ -1,4 +1,4 @@
-ghost use Rattle.std.specs.Prelude.{◌≡◌, ℕ, ◌+◌, ◌*◌, ◌<◌, ◌≤◌, length};
+ghost use Rattle.std.specs.Prelude.{◌≡◌, ◌+◌, ◌*◌, ◌≤◌, length};
 ghost use Rattle.scan.specs.Landing.{weight};
 ghost use Rattle.sweeps.specs.Strips.{Gained};
 ghost use Rattle.sweeps.specs.Passes.{weights, Sized, block_weight, BlockOf};

@@ -1,4 +1,4 @@
-ghost use Rattle.std.specs.Prelude.{◌≡◌, ℕ, ◌+◌, ◌*◌, ◌<◌, ◌≤◌, length, pos, ◌≤ℤ◌};
+ghost use Rattle.std.specs.Prelude.{◌≡◌, ℕ, ◌*◌, ◌<◌, length};
 ghost use Rattle.values.specs.Sums.{sum};
 ghost use Rattle.sweeps.specs.Stores.{at};
 ghost use Rattle.sweeps.specs.Strips.{share, strip_cells, strip_share, Inside, Covers, Gained};

@@ -1,4 +1,4 @@
-ghost use Rattle.std.specs.Prelude.{◌≡◌, ℕ, ◌+◌, ◌*◌, ◌<◌, ◌≤◌, length, ◌≤ℤ◌};
+ghost use Rattle.std.specs.Prelude.{◌<◌, ◌≤◌, length, ◌≤ℤ◌};
 ghost use Rattle.sweeps.specs.Strips.{Rising, Gained};
 ghost use Rattle.sweeps.specs.Passes.{weights, Sized, column_weight, SlabOf, ColumnOf, Meets};
 

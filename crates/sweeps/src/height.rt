@@ -1,4 +1,4 @@
-ghost use Rattle.std.specs.Prelude.{◌≡◌, ℕ, ◌+◌, ◌*◌, ◌<◌, ◌≤◌, length};
+ghost use Rattle.std.specs.Prelude.{◌≡◌, ◌+◌, ◌*◌, ◌<◌, ◌≤◌, length};
 ghost use Rattle.sweeps.specs.Strips.{strip_share, Rising, Covers, Gained};
 ghost use Rattle.sweeps.specs.Passes.{weights, Sized, Placed, beam_weight, SlabOf, ColumnOf, Meets, CellLine};
 

@@ -1,8 +1,6 @@
-ghost use Rattle.std.specs.Prelude.{◌≡◌, ℕ, ◌+◌, ◌-◌, ◌*◌, ◌<◌, ◌≤◌, length, take, drop, pos, slice_index_or};
+ghost use Rattle.std.specs.Prelude.{◌≡◌, ◌+◌, ◌-◌, ◌*◌, ◌<◌, ◌≤◌, length, take, drop, pos, slice_index_or};
 ghost use Rattle.std.specs.Int.{int_min, int_max};
-ghost use Rattle.scan.specs.Landing.{Landing};
 ghost use Rattle.sweeps.specs.Strips.{Gained};
-ghost use Rattle.sweeps.specs.Tables.{Tabled};
 ghost use Rattle.sweeps.specs.Passes.{weights, Sized, slab_weight, slab_start, slab_stride, rise, SlabOf, BlockOf};
 
 use crate::column::sweep_column;

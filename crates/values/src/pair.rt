@@ -1,4 +1,3 @@
-ghost use Rattle.std.specs.Prelude.{◌≡◌};
 ghost use Rattle.values.specs.Pairs.{pair_ops};
 ghost use Rattle.values.specs.PairLaws.{pair_laws};
 

@@ -1,4 +1,3 @@
-ghost use Rattle.std.specs.Prelude.{◌≡◌};
 ghost use Rattle.values.specs.Reaches.{reach_ops};
 ghost use Rattle.values.specs.ReachLaws.{reach_laws};
 

@@ -9,7 +9,7 @@ pub trait Value: Copy {
     // What the four operations mean.
     ghost ops: { Ops Self };
 
-    // The constant `ZERO`, as a call: a generic contract cannot speak of the constant itself, so generic sums start from this.
+    // The constant `ZERO`, as a call: generic sums start from this.
     fn neutral() -> Self
         ensures { result ≡ ops.zero };
 

@@ -13,7 +13,8 @@ returns c =
     let a = c.args in
     let es = a.edges.now in
     let first = c.run_start-first.result in
-    let before = before_run es c.requires.rises a.low a.high c.requires.ordered first (omega arith) (simp to_z-of_z at c.run_start-first.ensures.passed) in
+    let passed = simp to_z-of_z at c.run_start-first.ensures.passed in
+    let before = before_run es c.requires.rises a.low a.high c.requires.ordered 0 first (omega arith) (omega arith) (λ some. absurd (omega arith)) (λ i le. passed i) in
     let covers : Covers (record { start = a.start; stride = a.stride; edges = a.edges; low = a.low; high = a.high; first = first; last = c.if-low-high.last }) =
     elim c.if-low-high.branch [
       | then-low-high w ↦
