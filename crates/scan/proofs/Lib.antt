@@ -1,1 +1,4 @@
+pub mod Firsts
+pub mod Propers
 pub mod Reached
+pub mod Views

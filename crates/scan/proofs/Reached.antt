@@ -3,9 +3,9 @@ use Rattle.std.proofs.Common.{◌≡◌, ℕ, ◌*◌, Bool, leb, List, length, 
 use Rattle.std.proofs.lemmas.Bool.{leb-false}
 use Rattle.scan.specs.Axes.{edge_of}
 use Rattle.scan.specs.Plans.{widest, reach_check, Near, Reaches}
-use Rattle.scan.specs.Firsts.{or_none, cond_none, first_none}
+use Rattle.scan.proofs.Firsts.{or_none, cond_none, first_none}
 use Rattle.scan.specs.Numbered.{edge_at}
-use Rattle.scan.specs.Propers.{mapped_none}
+use Rattle.scan.proofs.Propers.{mapped_none}
 
 module _ (source panel : ℤ) (x y column : List ℤ) (passed : reach_check source panel x y column ≡ None) where
   pub near : Near source x y

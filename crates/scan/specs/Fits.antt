@@ -1,6 +1,8 @@
 -- Every plan fits. Assumes nothing.
-use Rattle.std.specs.Prelude.{◌≡◌, ℕ, zero, suc, ◌<◌, List, [], ◌∷◌, length, ℤ, vec_items, slice_index, slice_index_or}
-use Rattle.std.proofs.Common.{ap, arith}
+use Rattle.std.specs.Prelude.{◌≡◌, ℕ, zero, suc, ◌<◌, List, [], ◌∷◌, length, ℤ, vec_items, vec_len, Vec, slice_index, slice_index_or}
+use Rattle.std.proofs.Common.{sym, ap, ◌∙◌, arith}
+use Rattle.std.specs.declared.alloc.Global.{Global}
+use Rattle.std.proofs.lemmas.List.{length-map}
 use Rattle.std.proofs.lemmas.Int.{ints}
 use Rattle.geometry.specs.declared.direction.SlabAxis.{SlabAxis}
 use Rattle.geometry.specs.declared.step.Step.{Step}
@@ -9,7 +11,10 @@ use Rattle.scan.specs.declared.plan.Plan.{Plan}
 use Rattle.scan.specs.Axes.{Proper}
 use Rattle.scan.specs.Plans.{Scan, Fitted, landing_of}
 use Rattle.scan.specs.Meanings.{numbers, plan_of}
-use Rattle.scan.specs.Views.{views_length}
+
+-- as many views as numbers of views
+pub views_length : (views : Vec Step Global) → vec_len views ≡ length (numbers (vec_items views))
+views_length views = views.ok.0 ∙ sym (length-map (vec_items views) (λ (step : Step). step.number))
 
 step_below : (steps : List Step) (v : ℕ) → slice_index (numbers steps) v < 64
 step_below [] v = omega arith

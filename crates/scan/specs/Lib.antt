@@ -5,9 +5,6 @@ pub mod Checks
 pub mod Plans
 pub mod Meanings
 pub mod Lands
-pub mod Propers
-pub mod Firsts
 pub mod Fits
-pub mod Views
 pub mod Landings
 pub mod Numbered

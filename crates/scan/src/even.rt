@@ -3,7 +3,7 @@ ghost use Rattle.std.specs.Prelude.{◌≡◌, ◌+◌, ◌≤◌};
 ghost use Rattle.scan.specs.Axes.{Rises, Within, even_edge, even_edges};
 ghost use Rattle.scan.specs.Checks.{Verdict, even_check};
 ghost use Rattle.std.proofs.Common.{arith};
-ghost use Rattle.scan.specs.Propers.{even_length};
+ghost use Rattle.std.proofs.lemmas.List.FromFn.{length-map-range_with_len};
 
 use crate::axis::Axis;
 use crate::edges::{Edges, check_count, check_edges};
@@ -60,7 +60,7 @@ impl Axis for EvenAxis {
     ghost edges = { λ a. even_edges a.spaced.first a.spaced.pitch a.spaced.cells };
 
     ghost proper = { λ a.
-        let long = even_length a.spaced.first a.spaced.pitch a.spaced.cells in
+        let long = length-map-range_with_len (even_edge a.spaced.first a.spaced.pitch) 0 (a.spaced.cells + 1) in
         record { least = omega arith; most = omega (arith, a.spaced.few); rises = a.rises; within = a.within } };
 
     fn cells(&self) -> usize {

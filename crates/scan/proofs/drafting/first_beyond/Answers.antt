@@ -3,7 +3,7 @@ use Rattle.std.proofs.lemmas.Int.{to_z-of_z}
 use Rattle.std.proofs.lemmas.Bool.{le-leb, lt-leb}
 use Rattle.scan.specs.Checks.{first_where}
 use Rattle.scan.specs.Axes.{edge_of}
-use Rattle.scan.specs.Firsts.{first_more, first_found}
+use Rattle.scan.proofs.Firsts.{first_more, first_found}
 use Rattle.scan.proofs.drafting.first_beyond.Goals as goal
 
 pub returns-then-limit-unsigned_abs : goal.returns-then-limit-unsigned_abs

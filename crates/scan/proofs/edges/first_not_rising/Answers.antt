@@ -1,7 +1,7 @@
 use Rattle.std.proofs.Common.{ℕ, ◌+◌, Bool, sym, w64, SFits, rules}
 use lib.Signed.{le_z}
 use Rattle.std.proofs.lemmas.Int.{to_z-of_z}
-use Rattle.scan.specs.Firsts.{first_more, first_found}
+use Rattle.scan.proofs.Firsts.{first_more, first_found}
 use Rattle.scan.proofs.edges.first_not_rising.Goals as goal
 
 pub returns-then-get : goal.returns-then-get

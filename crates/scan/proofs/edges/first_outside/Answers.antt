@@ -1,7 +1,7 @@
 use Rattle.std.proofs.Common.{ℕ, Bool, ltb, nat_abs, sym, ap, ◌∙◌, arith, w64, SFits, rules}
 use Rattle.std.proofs.lemmas.Int.{to_z-of_z}
 use Rattle.std.proofs.lemmas.Bool.{lt-ltb, le-ltb}
-use Rattle.scan.specs.Firsts.{first_more, first_found}
+use Rattle.scan.proofs.Firsts.{first_more, first_found}
 use Rattle.scan.proofs.edges.first_outside.Goals as goal
 
 pub returns-then-unsigned_abs-limit : goal.returns-then-unsigned_abs-limit

@@ -1,7 +1,8 @@
 use Rattle.std.proofs.Common.{nat_abs, vec_items, refl, ap, ◌∙◌, w32}
 use Rattle.std.proofs.lemmas.Result.{err_from_is_err_and}
 use Rattle.std.proofs.lemmas.Int.{to_z-of_z}
-use Rattle.scan.specs.Views.{views_length, view_check_passes, unchanged, added}
+use Rattle.scan.specs.Fits.{views_length}
+use Rattle.scan.proofs.Views.{view_check_passes, unchanged, added}
 use Rattle.scan.proofs.draft.Draft.add_view.Goals as goal
 
 pub returns-in_err-step : goal.returns-in_err-step

@@ -1,5 +1,5 @@
 use Rattle.std.proofs.Common.{◌∙◌}
-use Rattle.scan.specs.Views.{views_length}
+use Rattle.scan.specs.Fits.{views_length}
 use Rattle.scan.proofs.draft.Draft.views.Goals as goal
 
 pub returns : goal.returns

@@ -1,7 +1,7 @@
 use Rattle.std.proofs.Common.{w32, to_z, of_z}
 use Rattle.std.proofs.lemmas.Result.{err_from_is_err_and}
 use Rattle.std.proofs.lemmas.Int.{to_z-of_z}
-use Rattle.scan.specs.Propers.{even_rises, even_within, count_within, after_none}
+use Rattle.scan.proofs.Propers.{even_rises, even_within, count_within, after_none}
 use Rattle.scan.proofs.even.EvenAxis.new.Goals as goal
 
 pub returns-in_err-check_edges : goal.returns-in_err-check_edges

@@ -1,5 +1,5 @@
 use Rattle.std.proofs.Common.{arith}
-use Rattle.scan.specs.Propers.{even_length}
+use Rattle.scan.proofs.Propers.{even_length}
 use Rattle.scan.proofs.even.EvenAxisAxis.cells.Goals as goal
 
 pub returns : goal.returns

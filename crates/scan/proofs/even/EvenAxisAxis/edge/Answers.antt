@@ -1,7 +1,7 @@
 use Rattle.std.proofs.Common.{◌≡◌, ◌-◌, min, length, get_or, pos, nat_abs, sym, ap, ◌∙◌, arith, w32, w64, SFits, rules}
 use Rattle.std.proofs.lemmas.Int.{ints, to_z-of_z}
 use Rattle.scan.specs.Axes.{even_edges}
-use Rattle.scan.specs.Propers.{even_length, even_edge_at}
+use Rattle.scan.proofs.Propers.{even_length, even_edge_at}
 use Rattle.scan.proofs.even.EvenAxisAxis.edge.Goals as goal
 
 pub overflow_cast-result : goal.overflow_cast-result

@@ -1,5 +1,5 @@
 use Rattle.std.proofs.Common.{vec_items}
-use Rattle.scan.specs.Propers.{listed_proper}
+use Rattle.scan.proofs.Propers.{listed_proper}
 use Rattle.scan.proofs.listed.ListedAxis.new.Goals as goal
 
 pub invariant_of-result : goal.invariant_of-result

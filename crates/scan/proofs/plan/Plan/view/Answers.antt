@@ -2,9 +2,8 @@ use Rattle.std.proofs.Common.{vec_items, ap, ◌∙◌, arith}
 use Rattle.geometry.specs.Turn.{slab_axis, main_of, side_of}
 use Rattle.scan.specs.Plans.{landing}
 use Rattle.scan.specs.Meanings.{plan_of}
-use Rattle.scan.specs.Fits.{number_at, fitted, landing_same}
+use Rattle.scan.specs.Fits.{number_at, fitted, landing_same, views_length}
 use Rattle.scan.specs.Landings.{lands}
-use Rattle.scan.specs.Views.{views_length}
 use Rattle.scan.proofs.plan.Plan.view.Goals as goal
 
 pub returns-then-view-len : goal.returns-then-view-len

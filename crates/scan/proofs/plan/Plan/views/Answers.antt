@@ -1,5 +1,5 @@
 use Rattle.std.proofs.Common.{◌∙◌, arith}
-use Rattle.scan.specs.Views.{views_length}
+use Rattle.scan.specs.Fits.{views_length}
 use Rattle.scan.proofs.plan.Plan.views.Goals as goal
 
 pub returns : goal.returns

@@ -1,16 +1,11 @@
 -- The numbers of the views of a draft. Assumes nothing.
-use Rattle.std.specs.Prelude.{◌≡◌, ℕ, List, [], ◌∷◌, ◌++◌, length, ℤ, vec_items, vec_len, Option, Vec, refl}
+use Rattle.std.specs.Prelude.{◌≡◌, ℕ, List, [], ◌∷◌, ◌++◌, ℤ, Option, refl}
 use Rattle.std.proofs.Common.{sym, ap, ◌∙◌}
-use Rattle.std.specs.declared.alloc.Global.{Global}
-use Rattle.std.proofs.lemmas.List.{length-map}
 use Rattle.geometry.specs.declared.step.Step.{Step}
 use Rattle.scan.specs.declared.refusal.Refusal.{Refusal}
 use Rattle.scan.specs.declared.layout.Layout.{Layout}
 use Rattle.scan.specs.Plans.{view_check, with_view}
 use Rattle.scan.specs.Meanings.{numbers, scan_of}
-
-pub views_length : (views : Vec Step Global) → vec_len views ≡ length (numbers (vec_items views))
-views_length views = views.ok.0 ∙ sym (length-map (vec_items views) (λ (step : Step). step.number))
 
 pub numbers_push : (steps : List Step) (step : Step) → numbers (steps ++ (step ∷ [])) ≡ numbers steps ++ (step.number ∷ [])
 numbers_push [] step = refl

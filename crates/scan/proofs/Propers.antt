@@ -7,7 +7,7 @@ use Rattle.std.proofs.lemmas.List.FromFn.{length-map-range_with_len, get_or-map-
 use Rattle.std.specs.Option.{option_or, option_map}
 use Rattle.scan.specs.Axes.{Proper, Rises, Within, even_edge, even_edges}
 use Rattle.scan.specs.Checks.{first_outside, first_not_rising, edges_check, count_check}
-use Rattle.scan.specs.Firsts.{or_none, cond_none, first_none}
+use Rattle.scan.proofs.Firsts.{or_none, cond_none, first_none}
 
 pub mapped_none : {X Y : Type 0} (f : X → Y) (o : Option X) → option_map f o ≡ None → o ≡ None
 mapped_none f None e = refl
