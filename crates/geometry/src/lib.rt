@@ -9,4 +9,5 @@ mod floor;
 pub mod landed;
 pub mod overlap;
 pub mod step;
+pub mod stretch;
 pub mod turn;
