@@ -2,6 +2,7 @@
 //! of voxels and of detector cells land on a common plane, and how far the stretches between two edges overlap.
 #![tactic(auto)]
 
+pub mod cell;
 pub mod direction;
 pub mod distances;
 pub mod edge;
@@ -9,4 +10,5 @@ mod floor;
 pub mod landed;
 pub mod overlap;
 pub mod step;
+pub mod stretch;
 pub mod turn;
