@@ -2,7 +2,7 @@
 ghost use Rattle.std.specs.Prelude.{◌≤◌, unsigned_abs};
 
 // The axis whose cells are the slabs: the one along which the central ray runs more, and y at a tie.
-#[derive(Clone, Copy, PartialEq, Eq, Debug)]
+#[derive(Clone, Copy)]
 pub enum SlabAxis {
     X,
     Y,
@@ -12,14 +12,14 @@ pub enum SlabAxis {
 pub(crate) const R: i64 = 16_384;
 
 // The sine and the cosine of a step, in 16384ths.
-#[derive(Clone, Copy, PartialEq, Eq, Debug)]
+#[derive(Clone, Copy)]
 pub struct Heading {
     pub s: i64,
     pub c: i64,
 }
 
 // (a, b) is (c, s) where the slabs are the cells of y and (s, -c) where they are the cells of x; |b| <= |a|.
-#[derive(Clone, Copy, PartialEq, Eq, Debug)]
+#[derive(Clone, Copy)]
 pub struct Direction {
     pub slabs: SlabAxis,
     pub a: i64,

@@ -8,7 +8,7 @@ pub const FARTHEST_SOURCE: i64 = 16_777_216;
 pub const FARTHEST_PANEL: i64 = 33_554_432;
 
 // From the source to the rotation axis, and from the source to the panel, which stands no nearer.
-#[derive(Clone, Copy, PartialEq, Eq, Debug)]
+#[derive(Clone, Copy)]
 pub struct Distances {
     pub source: i64,
     pub panel: i64,

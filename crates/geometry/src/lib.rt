@@ -2,7 +2,6 @@
 //! of voxels and of detector cells land on a common plane, and how far the stretches between two edges overlap.
 #![tactic(auto)]
 
-pub mod cell;
 pub mod direction;
 pub mod distances;
 pub mod edge;

@@ -1,5 +1,5 @@
 -- The line of voxels and the line of cells that meet at one slab, column and height.
-use Rattle.std.proofs.Common.{◌≡◌, ℕ, ◌+◌, ◌-◌, ◌*◌, ◌^◌, ◌<◌, ◌≤◌, cond, eqb, List, length, get_or, ℤ, pos, ◌≤ℤ◌, sym, refl, ap, ◌∙◌, subst, ap₂, ⊎_elim, mul_assoc, add-mul, mul-le-mul, mul-zero, zero-mul, mul-one, arith}
+use Rattle.std.proofs.Common.{◌≡◌, ℕ, ◌+◌, ◌-◌, ◌*◌, ◌^◌, ◌<◌, ◌≤◌, if◌then◌else◌, ◌==◌, List, length, slice_index_or, ℤ, pos, ◌≤ℤ◌, sym, refl, ap, ◌∙◌, subst, ap₂, ⊎_elim, mul_assoc, add-mul, mul-le-mul, mul-zero, zero-mul, mul-one, arith}
 use lib.Arith.{digits_lt}
 use Rattle.std.specs.Int.{int_min, int_max}
 use Rattle.std.proofs.lemmas.Int.{clamps}
@@ -7,12 +7,14 @@ use borrow.Author.Differences.{ints}
 use Rattle.std.proofs.lemmas.Bool.{cases_lt}
 use Rattle.geometry.specs.Overlap.{overlap}
 use Rattle.geometry.specs.declared.direction.SlabAxis.{SlabAxis}
+use Rattle.geometry.specs.declared.stretch.Stretch.{Stretch}
 use Rattle.geometry.specs.declared.direction.SlabAxis.TheVariants.{X, Y}
 use Rattle.values.proofs.Sums.{sum_same, sum_none}
 use Rattle.scan.specs.Landing.{Landing, Sound, by_slabs, voxels, cells, cross_overlap, height_overlap}
-use Rattle.sweeps.specs.Strips.{share, laid, strip_cells, strip_share, Inside, Rising, Covers}
+use Rattle.sweeps.specs.Runs.{share, Rising}
+use Rattle.sweeps.specs.Strips.{laid, strip_cells, strip_share, Inside}
 use Rattle.sweeps.specs.Tables.{Tabled}
-use Rattle.sweeps.specs.Passes.{weights, Sized, Placed, slab_start, slab_stride, rise, beam_weight, column_weight, SlabOf, ColumnOf, Meets, CellLine}
+use Rattle.sweeps.specs.Passes.{weights, Lengths, Placed, slab_start, slab_stride, rise, beam_weight, column_weight, SlabOf, ColumnOf, Meets, CellLine}
 use Rattle.sweeps.specs.declared.pass.Way.{Way}
 use Rattle.sweeps.specs.declared.pass.Way.TheVariants.{Forward, Back}
 use Rattle.sweeps.specs.declared.pass.Slab.{Slab}
@@ -62,7 +64,7 @@ line_most L sound j l start rise' js lh e f =
 pub laid_same : (start start' stride stride' n n' : ℕ) (w w' : ℕ → ℕ) → start ≡ start' → stride ≡ stride' → n ≡ n' → ((i : ℕ) → i < n → w i ≡ w' i) → (p : ℕ) → laid start stride w n p ≡ laid start' stride' w' n' p
 unfolding laid
 laid_same start start' stride stride' n n' w w' e f g h p =
-    sum_same naturals_laws n _ _ (λ i l. ap (λ v. cond (eqb p (start + i * stride)) v 0) (h i l))
+    sum_same naturals_laws n _ _ (λ i l. ap (λ v. if p == start + i * stride then v else 0) (h i l))
     ∙ ap₂ (λ a b. laid a b w' n p) e f
     ∙ ap (λ m. laid start' stride' w' m p) g
 
@@ -70,17 +72,12 @@ laid_same start start' stride stride' n n' w w' e f g h p =
 pub tabled_rising : (es : List ℤ) (n : ℕ) (f : ℕ → ℤ) → Tabled es (n + 1) f → ((i : ℕ) → f i ≤ℤ f (i + 1)) → Rising es
 tabled_rising es n f t r i l =
     let len = t.0 in
-    subst (λ z. z ≤ℤ get_or es (i + 1) (pos 0)) (sym (t.1 i (omega arith)))
+    subst (λ z. z ≤ℤ slice_index_or es (i + 1) (pos 0)) (sym (t.1 i (omega arith)))
     (subst (λ z. f i ≤ℤ z) (sym (t.1 (i + 1) (omega arith))) (r i))
 
 -- an empty run: no cell overlaps
-pub share_empty : (s : Strip) → Covers s → s.last ≤ s.first → (i : ℕ) → i < strip_cells s → share s.edges.now s.low s.high i ≡ 0
-share_empty s v h i l = ⊎_elim (λ lt. v.before i lt) (λ ge. v.after i (omega arith) l) (cases_lt i s.first)
-
-pub column_ordered : (L : Landing) (column : Column) → ColumnOf L column → column.low ≤ℤ column.high
-column_ordered L column co =
-    let h : int_min (L.S column.number) (L.S (column.number + 1)) ≤ℤ int_max (L.S column.number) (L.S (column.number + 1)) = omega (arith, ints, clamps) in
-    subst (λ z. z ≤ℤ column.high) (sym co.low) (subst (λ z. int_min (L.S column.number) (L.S (column.number + 1)) ≤ℤ z) (sym co.high) h)
+pub share_empty : (s : Strip) → s.last ≤ s.first → (i : ℕ) → i < strip_cells s → share s.edges.at.now s.over.low s.over.high i ≡ 0
+share_empty s h i l = ⊎_elim (λ lt. s.covers.before i lt) (λ ge. s.covers.after i (omega arith) l) (cases_lt i s.first)
 
 module _ (L : Landing) (slab : Slab) (column : Column) (sl : SlabOf L slab) (co : ColumnOf L column) where
   abbrev j : ℕ
@@ -89,17 +86,17 @@ module _ (L : Landing) (slab : Slab) (column : Column) (sl : SlabOf L slab) (co 
   abbrev k : ℕ
   k = column.number
 
-  cross_share : (i : ℕ) → i < L.crosses → share slab.crosses.now column.low column.high i ≡ cross_overlap L j i k
+  cross_share : (i : ℕ) → i < L.crosses → share slab.crosses.at.now column.over.low column.over.high i ≡ cross_overlap L j i k
   unfolding cross_overlap
   cross_share i l =
-      ap₂ (λ a b. overlap a b column.low column.high) (sl.crosses.1 i (omega arith)) (sl.crosses.1 (i + 1) (omega arith))
+      ap₂ (λ a b. overlap a b column.over.low column.over.high) (sl.crosses.1 i (omega arith)) (sl.crosses.1 (i + 1) (omega arith))
       ∙ ap₂ (λ a b. overlap (L.U j i) (L.U j (i + 1)) a b) co.low co.high
       ∙ overlap_sorted (L.U j i) (L.U j (i + 1)) (L.S k) (L.S (k + 1))
 
-  height_share : (l m : ℕ) → l < L.heights → m < L.rows → share column.rows.now (get_or slab.heights.now l (pos 0)) (get_or slab.heights.now (l + 1) (pos 0)) m ≡ height_overlap L j l k m
+  height_share : (l m : ℕ) → l < L.heights → m < L.rows → share column.rows.at.now (slice_index_or slab.heights.at.now l (pos 0)) (slice_index_or slab.heights.at.now (l + 1) (pos 0)) m ≡ height_overlap L j l k m
   unfolding height_overlap
   height_share l m lh mr =
-      ap₂ (λ a b. overlap a b (get_or slab.heights.now l (pos 0)) (get_or slab.heights.now (l + 1) (pos 0))) (co.rows.1 m (omega arith)) (co.rows.1 (m + 1) (omega arith))
+      ap₂ (λ a b. overlap a b (slice_index_or slab.heights.at.now l (pos 0)) (slice_index_or slab.heights.at.now (l + 1) (pos 0))) (co.rows.1 m (omega arith)) (co.rows.1 (m + 1) (omega arith))
       ∙ ap₂ (λ a b. overlap (L.T k m) (L.T k (m + 1)) a b) (sl.heights.1 l (omega arith)) (sl.heights.1 (l + 1) (omega arith))
       ∙ overlap_sym (L.T k m) (L.T k (m + 1)) (L.W j l) (L.W j (l + 1))
 
@@ -108,32 +105,20 @@ module _ (L : Landing) (slab : Slab) (column : Column) (sl : SlabOf L slab) (co 
     pub start : s.start ≡ slab.start + l * slab.rise
     pub meets : Meets slab column s
 
-  pub voxel_line : (l : ℕ) (cross s : Strip) → Meets slab column cross → (s.start ≡ slab.start + l * slab.rise) × (s.stride ≡ cross.stride) → s.edges.now ≡ cross.edges.now
-      → (s.low ≡ cross.low) × (s.high ≡ cross.high) → (s.first ≡ cross.first) × (s.last ≡ cross.last) → VoxelLine l s
-  voxel_line l cross s meets place edges stretch run =
-      let low = stretch.0 in
-      let high = stretch.1 in
-      let v = meets.covers in
-      let n : strip_cells s ≡ strip_cells cross = ap (λ es. length es - 1) edges in
-      let same : (i : ℕ) → share s.edges.now s.low s.high i ≡ share cross.edges.now cross.low cross.high i =
-      λ i. ap (λ es. share es s.low s.high i) edges ∙ ap₂ (λ a b. share cross.edges.now a b i) low high in
+  pub voxel_line : (l : ℕ) (cross s : Strip) → Meets slab column cross → (s.start ≡ slab.start + l * slab.rise) × (s.stride ≡ cross.stride)
+      → s.edges.at.now ≡ cross.edges.at.now → (s.over.low ≡ cross.over.low) × (s.over.high ≡ cross.over.high) → VoxelLine l s
+  voxel_line l cross s meets place edges stretch =
       record {
         start = place.0;
-        meets = record {
-          covers = record {
-            ordered = subst (λ z. z ≤ℤ s.high) (sym low) (subst (λ z. cross.low ≤ℤ z) (sym high) v.ordered);
-            rises = subst Rising (sym edges) v.rises;
-            run = let r = v.run in let a = run.0 in let b = run.1 in omega arith;
-            ends = let r = v.ends in let b = run.1 in omega arith;
-            before = λ i h. let a = run.0 in same i ∙ v.before i (omega arith);
-            after = λ i h h'. let b = run.1 in same i ∙ v.after i (omega arith) (omega arith);
-          };
-          stride = place.1 ∙ meets.stride;
-          edges = edges ∙ meets.edges;
-          low = low ∙ meets.low;
-          high = high ∙ meets.high;
-        };
+        meets = record { stride = place.1 ∙ meets.stride; edges = edges ∙ meets.edges; low = stretch.0 ∙ meets.low; high = stretch.1 ∙ meets.high };
       }
+
+  -- the line of cells over the stretch of height l
+  pub cell_line : (l : ℕ) (over : Stretch) (s : Strip) → (s.start ≡ column.number) × (s.stride ≡ column.stride) → s.edges.at.now ≡ column.rows.at.now
+      → (s.over.low ≡ over.low) × (s.over.high ≡ over.high)
+      → over.low ≡ slice_index_or slab.heights.at.now l (pos 0) → over.high ≡ slice_index_or slab.heights.at.now (l + 1) (pos 0) → CellLine slab column l s
+  cell_line l over s place edges stretch low high =
+      record { start = place.0; stride = place.1; edges = edges; low = stretch.0 ∙ low; high = stretch.1 ∙ high }
 
   module _ (l : ℕ) (lh : l < L.heights) (s : Strip) where
     abbrev start : ℕ
@@ -145,9 +130,9 @@ module _ (L : Landing) (slab : Slab) (column : Column) (sl : SlabOf L slab) (co 
     start_is : VoxelLine l s → s.start ≡ start
     start_is v = v.start ∙ ap₂ (λ a b. a + l * b) sl.start sl.rise
 
-    voxel_share : VoxelLine l s → (i : ℕ) → i < L.crosses → share s.edges.now s.low s.high i ≡ cross_overlap L j i k
+    voxel_share : VoxelLine l s → (i : ℕ) → i < L.crosses → share s.edges.at.now s.over.low s.over.high i ≡ cross_overlap L j i k
     voxel_share v i h =
-        ap (λ es. share es s.low s.high i) v.meets.edges ∙ ap₂ (λ a b. share slab.crosses.now a b i) v.meets.low v.meets.high ∙ cross_share i h
+        ap (λ es. share es s.over.low s.over.high i) v.meets.edges ∙ ap₂ (λ a b. share slab.crosses.at.now a b i) v.meets.low v.meets.high ∙ cross_share i h
 
     pub voxels_laid : VoxelLine l s → (x : ℕ) → strip_share s x ≡ laid start (slab_stride L) (λ i. cross_overlap L j i k) L.crosses x
     voxels_laid v x =
@@ -165,11 +150,11 @@ module _ (L : Landing) (slab : Slab) (column : Column) (sl : SlabOf L slab) (co 
 
     -- where the run of rows begins
     pub near_rows : CellLine slab column l s → s.first ≤ L.rows
-    near_rows v = let n = rows_are v in let r = v.covers.run in let e = v.covers.ends in omega arith
+    near_rows v = let n = rows_are v in let r = s.covers.run in let e = s.covers.ends in omega arith
 
-    cell_share : CellLine slab column l s → (m : ℕ) → m < L.rows → share s.edges.now s.low s.high m ≡ height_overlap L j l k m
+    cell_share : CellLine slab column l s → (m : ℕ) → m < L.rows → share s.edges.at.now s.over.low s.over.high m ≡ height_overlap L j l k m
     cell_share v m h =
-        ap (λ es. share es s.low s.high m) v.edges ∙ ap₂ (λ a b. share column.rows.now a b m) v.low v.high ∙ height_share l m lh h
+        ap (λ es. share es s.over.low s.over.high m) v.edges ∙ ap₂ (λ a b. share column.rows.at.now a b m) v.low v.high ∙ height_share l m lh h
 
     pub cells_laid : CellLine slab column l s → (c : ℕ) → strip_share s c ≡ laid k L.columns (λ m. height_overlap L j l k m) L.rows c
     cells_laid v c =
@@ -188,7 +173,7 @@ module _ (L : Landing) (slab : Slab) (column : Column) (sl : SlabOf L slab) (co 
     cells_none v h x c =
         let n = rows_are v in
         let z : laid k L.columns (λ m. height_overlap L j l k m) L.rows c ≡ 0 =
-        sym (cells_laid v c) ∙ laid_zero s.start s.stride (share s.edges.now s.low s.high) (strip_cells s) c (share_empty s v.covers h) in
+        sym (cells_laid v c) ∙ laid_zero s.start s.stride (share s.edges.at.now s.over.low s.over.high) (strip_cells s) c (share_empty s h) in
         ap (λ b. laid start (slab_stride L) (λ i. cross_overlap L j i k) L.crosses x * b) z ∙ mul-zero _
 
     -- no voxel is reached
@@ -196,20 +181,20 @@ module _ (L : Landing) (slab : Slab) (column : Column) (sl : SlabOf L slab) (co 
     unfolding beam_weight
     voxels_none v h x c =
         let z : laid start (slab_stride L) (λ i. cross_overlap L j i k) L.crosses x ≡ 0 =
-        sym (voxels_laid v x) ∙ laid_zero s.start s.stride (share s.edges.now s.low s.high) (strip_cells s) x (share_empty s v.meets.covers h) in
+        sym (voxels_laid v x) ∙ laid_zero s.start s.stride (share s.edges.at.now s.over.low s.over.high) (strip_cells s) x (share_empty s h) in
         ap (λ b. b * laid k L.columns (λ m. height_overlap L j l k m) L.rows c) z ∙ zero-mul _
 
   -- where the run of voxels begins
   pub near_crosses : (s : Strip) → Meets slab column s → s.first ≤ L.crosses
-  near_crosses s v = let e = ap length v.edges in let f = sl.crosses.0 in let r = v.covers.run in let n = v.covers.ends in omega arith
+  near_crosses s v = let e = ap length v.edges in let f = sl.crosses.0 in let r = s.covers.run in let n = s.covers.ends in omega arith
 
   -- the column meets no voxel of the slab
   pub column_none : (s : Strip) → Meets slab column s → s.last ≤ s.first → (x c : ℕ) → column_weight L j k x c ≡ 0
   unfolding column_weight
   column_none s v h x c =
       sum_none naturals_laws L.heights _ (λ l lh.
-      voxels_none l lh (record { start = slab.start + l * slab.rise; stride = s.stride; edges = s.edges; low = s.low; high = s.high; first = s.first; last = s.last })
-      (voxel_line l s _ v (refl, refl) refl (refl, refl) (refl, refl)) h x c)
+      voxels_none l lh (record { start = slab.start + l * slab.rise; stride = s.stride; edges = s.edges; over = s.over; first = s.first; last = s.last; covers = s.covers })
+      (voxel_line l s _ v (refl, refl) refl (refl, refl)) h x c)
 
   -- what a voxel and a cell have of their weight here
   pub beam_is : (l : ℕ) → l < L.heights → (s t : Strip) → VoxelLine l s → CellLine slab column l t → (x c : ℕ) → strip_share s x * strip_share t c ≡ beam_weight L j k l x c
@@ -225,6 +210,6 @@ pub weights_none : (way : Way) (M : ℕ → ℕ → ℕ) → ((x c : ℕ) → M 
 weights_none Forward M h q p = h q p
 weights_none Back M h q p = h p q
 
-pub placed : (way : Way) (L : Landing) (from to : ℕ) (s t : Strip) → Sized way L from to → Inside s (voxels L) → Inside t (cells L) → Placed way s t from to
+pub placed : (way : Way) (L : Landing) (from to : ℕ) (s t : Strip) → Lengths way L from to → Inside s (voxels L) → Inside t (cells L) → Placed way s t from to
 placed Forward L from to s t z a b = (rw z.0 a, rw z.1 b)
 placed Back L from to s t z a b = (rw z.0 b, rw z.1 a)

@@ -1,58 +1,54 @@
 -- Columns side by side, and the tables of a block.
-use Rattle.std.proofs.Common.{◌≡◌, ℕ, ◌+◌, ◌-◌, ◌*◌, ◌<◌, ◌≤◌, List, length, get_or, take, drop, ℤ, pos, sym, ap, ◌∙◌, ap₂, mul-le-mul_right, add-mul, one-mul, arith}
+use Rattle.std.proofs.Common.{◌≡◌, ℕ, ◌+◌, ◌-◌, ◌*◌, ◌<◌, ◌≤◌, List, length, slice_index_or, take, drop, ℤ, pos, sym, ap, ◌∙◌, ap₂, mul-le-mul_right, add-mul, one-mul, arith}
 use lib.Arith.{digits_div, digits_mod}
 use Rattle.std.specs.Int.{int_min, int_max}
 use Rattle.std.proofs.lemmas.List.{get_or-take, get_or-drop, length-take-le, length-drop}
 use Rattle.scan.specs.Landing.{Landing}
 use Rattle.sweeps.specs.Passes.{ColumnOf, BlockOf}
 use Rattle.sweeps.specs.declared.pass.Column.{Column}
-use Rattle.sweeps.specs.declared.pass.Block.{Block}
 
 -- the end of row m of a table
 pub row_end : (m rows columns : ℕ) → m < rows → m * columns + columns ≤ rows * columns
 row_end m rows columns h = let more : m + 1 ≤ rows = omega arith in omega (arith, mul-le-mul_right columns more, add-mul m 1 columns, one-mul columns)
 
-module _ (L : Landing) (b : Block) (bo : BlockOf L b) (d : ℕ) (below : d < b.count) where
-  abbrev w : ℕ
-  w = b.width
-
+module _ (L : Landing) (first count stride width : ℕ) (columns rows : List ℤ) (bo : BlockOf L first count stride width columns rows) (d : ℕ) (below : d < count) where
   abbrev part : List ℤ
-  part = take ((d * w + w) - d * w) (drop (d * w) b.rows.now)
+  part = take ((d * width + width) - d * width) (drop (d * width) rows)
 
-  pub rows_end : d * w + w ≤ length b.rows.now
-  rows_end = let e = row_end d b.count w below in let f = bo.rows.0 in omega arith
+  pub rows_end : d * width + width ≤ length rows
+  rows_end = let e = row_end d count width below in let f = bo.rows_are.0 in omega arith
 
-  wide : (d * w + w) - d * w ≡ w
+  wide : (d * width + width) - d * width ≡ width
   wide = omega arith
 
-  part_length : length part ≡ w
-  part_length = let e = rows_end in ap (λ n. length (take n (drop (d * w) b.rows.now))) wide ∙ length-take-le w (drop (d * w) b.rows.now) (omega (arith, length-drop (d * w) b.rows.now))
+  part_length : length part ≡ width
+  part_length = let e = rows_end in ap (λ n. length (take n (drop (d * width) rows))) wide ∙ length-take-le width (drop (d * width) rows) (omega (arith, length-drop (d * width) rows))
 
-  part_edge : (m : ℕ) → m < w → get_or part m (pos 0) ≡ L.T (b.first + d) m
+  part_edge : (m : ℕ) → m < width → slice_index_or part m (pos 0) ≡ L.T (first + d) m
   part_edge m h =
       let e = wide in
-      let inside : d * w + m < b.count * w = let r = row_end d b.count w below in omega arith in
-      get_or-take ((d * w + w) - d * w) (drop (d * w) b.rows.now) m (pos 0) (omega arith)
-      ∙ get_or-drop (d * w) b.rows.now m (pos 0)
-      ∙ bo.rows.1 (d * w + m) inside
-      ∙ ap₂ (λ k n. L.T (b.first + k) n) (digits_div d h) (digits_mod d h)
+      let inside : d * width + m < count * width = let r = row_end d count width below in omega arith in
+      get_or-take ((d * width + width) - d * width) (drop (d * width) rows) m (pos 0) (omega arith)
+      ∙ get_or-drop (d * width) rows m (pos 0)
+      ∙ bo.rows_are.1 (d * width + m) inside
+      ∙ ap₂ (λ k n. L.T (first + k) n) (digits_div d h) (digits_mod d h)
 
-  pub block_column : (c : Column) → c.number ≡ b.first + d → c.stride ≡ b.stride
-      → c.low ≡ int_min (get_or b.columns.now d (pos 0)) (get_or b.columns.now (d + 1) (pos 0))
-      → c.high ≡ int_max (get_or b.columns.now d (pos 0)) (get_or b.columns.now (d + 1) (pos 0))
-      → c.rows.now ≡ part → ColumnOf L c
-  block_column c number stride low high rows =
-      let one : get_or b.columns.now d (pos 0) ≡ L.S c.number = bo.columns.1 d (omega arith) ∙ ap L.S (sym number) in
-      let next : b.first + (d + 1) ≡ c.number + 1 = omega arith in
-      let other : get_or b.columns.now (d + 1) (pos 0) ≡ L.S (c.number + 1) = bo.columns.1 (d + 1) (omega arith) ∙ ap L.S next in
+  pub block_column : (c : Column) → c.number ≡ first + d → c.stride ≡ stride
+      → c.over.low ≡ int_min (slice_index_or columns d (pos 0)) (slice_index_or columns (d + 1) (pos 0))
+      → c.over.high ≡ int_max (slice_index_or columns d (pos 0)) (slice_index_or columns (d + 1) (pos 0))
+      → c.rows.at.now ≡ part → ColumnOf L c
+  block_column c number is_stride low high is_rows =
+      let one : slice_index_or columns d (pos 0) ≡ L.S c.number = bo.columns_are.1 d (omega arith) ∙ ap L.S (sym number) in
+      let next : first + (d + 1) ≡ c.number + 1 = omega arith in
+      let other : slice_index_or columns (d + 1) (pos 0) ≡ L.S (c.number + 1) = bo.columns_are.1 (d + 1) (omega arith) ∙ ap L.S next in
       let limit = bo.below in
       record {
         below = omega arith;
-        stride = stride ∙ bo.stride;
+        stride = is_stride ∙ bo.stride_is;
         low = low ∙ ap₂ int_min one other;
         high = high ∙ ap₂ int_max one other;
         rows = (
-          ap length rows ∙ part_length ∙ bo.width,
-          λ m h. let width = bo.width in ap (λ es. get_or es m (pos 0)) rows ∙ part_edge m (omega arith) ∙ ap (λ k. L.T k m) (sym number),
+          ap length is_rows ∙ part_length ∙ bo.width_is,
+          λ m h. let wide_is = bo.width_is in ap (λ es. slice_index_or es m (pos 0)) is_rows ∙ part_edge m (omega arith) ∙ ap (λ k. L.T k m) (sym number),
         );
       }

@@ -1,5 +1,5 @@
 -- Numbers laid on a strip of a store, and the sums over the strip that they stand for.
-use Rattle.std.proofs.Common.{◌≡◌, ℕ, ◌+◌, ◌*◌, ◌<◌, ◌≤◌, cond, eqb, ◌≢◌, List, length, set, sym, refl, ap, ◌∙◌, ap₂, ⊎_elim}
+use Rattle.std.proofs.Common.{◌≡◌, ℕ, ◌+◌, ◌*◌, ◌<◌, ◌≤◌, if◌then◌else◌, ◌==◌, ◌≢◌, List, length, set, sym, refl, ap, ◌∙◌, ap₂, ⊎_elim}
 use Rattle.std.proofs.lemmas.List.{get_or-set_same, get_or-set_other}
 use Rattle.std.proofs.lemmas.Bool.{eq-eqb, ne_eqb, cond-true, cond-false, cases_eq}
 use Rattle.values.specs.Laws.{Ops, Laws}
@@ -11,7 +11,7 @@ use Rattle.sweeps.proofs.Naturals.{naturals_laws}
 
 module _ (start stride : ℕ) (w : ℕ → ℕ) where
   abbrev here : ℕ → ℕ → ℕ
-  here n p = cond (eqb p (start + n * stride)) (w n) 0
+  here n p = if p == start + n * stride then w n else 0
 
   pub here_hit : (n p : ℕ) → p ≡ start + n * stride → here n p ≡ w n
   here_hit n p e = cond-true _ _ _ (eq-eqb p (start + n * stride) e)

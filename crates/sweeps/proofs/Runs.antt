@@ -1,14 +1,20 @@
 -- The run of a strip holds every cell that overlaps its stretch.
-use Rattle.std.proofs.Common.{◌≡◌, ℕ, zero, suc, ◌+◌, ◌-◌, ◌<◌, ◌≤◌, List, length, get_or, ℤ, pos, ◌≤ℤ◌, ⊎_elim, arith}
+use Rattle.std.proofs.Common.{◌≡◌, ℕ, zero, suc, ◌+◌, ◌-◌, ◌<◌, ◌≤◌, Option, Some, None, List, length, slice_index_or, ℤ, pos, ◌≤ℤ◌, ⊎_elim, arith}
+use Rattle.std.specs.Option.{MatchOption, unwrap_or}
 use lib.Signed.{≤ℤ_refl}
 use borrow.Author.Differences.{ints}
 use Rattle.std.proofs.lemmas.Bool.{cases_lt}
-use Rattle.sweeps.specs.Strips.{share, Rising}
+use Rattle.sweeps.specs.Runs.{share, Rising}
 use Rattle.geometry.proofs.Overlaps.{overlap_low, overlap_high, overlap_sym, overlap_most}
+
+-- up to the first number of a range that passes, or to the range's end where none does, no number passes
+pub fails_before : (r : Option ℕ) (start end : ℕ) (Yes No : ℕ → Type 0) → MatchOption r ((k : ℕ) → start ≤ k → k < end → No k) (λ i. (start ≤ i) × (i < end) × Yes i × ((k : ℕ) → start ≤ k → k < i → No k)) → (k : ℕ) → start ≤ k → k < unwrap_or r end → No k
+fails_before None start end Yes No h = h
+fails_before (Some i) start end Yes No h = h.3
 
 module _ (es : List ℤ) (rises : Rising es) where
   abbrev edge : ℕ → ℤ
-  edge i = get_or es i (pos 0)
+  edge i = slice_index_or es i (pos 0)
 
   climbs : (i d : ℕ) → i + d < length es → edge i ≤ℤ edge (i + d)
   climbs i zero l = let e : i + 0 ≡ i = omega arith in rw e (≤ℤ_refl (edge i))

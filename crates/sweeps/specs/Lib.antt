@@ -1,4 +1,5 @@
 pub mod Stores
+pub mod Runs
 pub mod Strips
 pub mod Tables
 pub mod Passes

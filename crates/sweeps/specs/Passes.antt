@@ -1,17 +1,18 @@
 -- What the loops of a sweep add up, level by level: for readers of the code. The calls' promises do not rest on it.
-use Rattle.std.specs.Prelude.{◌≡◌, ℕ, ◌+◌, ◌*◌, ◌/◌, ◌%◌, ◌<◌, ◌≤◌, pos, None, slice_index_or}
+use Rattle.std.specs.Prelude.{◌≡◌, ℕ, ◌+◌, ◌*◌, ◌/◌, ◌%◌, ◌<◌, ◌≤◌, List, length, ℤ, pos, None, slice_index_or}
 use Rattle.std.specs.Int.{int_min, int_max}
+use Rattle.values.specs.Laws.{Ops}
 use Rattle.values.specs.Sums.{sum}
 use Rattle.scan.specs.Landing.{Landing, by_slabs, nx, ny, voxels, cells, cross_overlap, height_overlap}
 use Rattle.scan.specs.Plans.{Scan, landing, panel_of}
 use Rattle.sweeps.specs.Calls.{system_of, call_check}
-use Rattle.sweeps.specs.Strips.{naturals, laid, Inside, Covers}
+use Rattle.sweeps.specs.Strips.{naturals, laid, Inside, Gained}
 use Rattle.sweeps.specs.Tables.{Tabled}
 use Rattle.sweeps.specs.declared.pass.Way.{Way}
 use Rattle.sweeps.specs.declared.pass.Way.TheVariants.{Forward, Back}
+use Rattle.sweeps.specs.declared.pass.Pass.{Pass}
 use Rattle.sweeps.specs.declared.pass.Slab.{Slab}
 use Rattle.sweeps.specs.declared.pass.Column.{Column}
-use Rattle.sweeps.specs.declared.pass.Block.{Block}
 use Rattle.sweeps.specs.declared.strip.Strip.{Strip}
 
 -- The weight of a source and a target place, where M is that of a voxel and a cell.
@@ -20,9 +21,17 @@ weights Forward M q p = M q p
 weights Back M q p = M p q
 
 -- The lengths of source and target: forward goes from voxels to cells, back from cells to voxels.
-abbrev pub Sized : Way → Landing → ℕ → ℕ → Type 0
-Sized Forward L from to = (from ≡ voxels L) × (to ≡ cells L)
-Sized Back L from to = (from ≡ cells L) × (to ≡ voxels L)
+abbrev pub Lengths : Way → Landing → ℕ → ℕ → Type 0
+Lengths Forward L from to = (from ≡ voxels L) × (to ≡ cells L)
+Lengths Back L from to = (from ≡ cells L) × (to ≡ voxels L)
+
+-- A pass reads a source of its view's length, and so many targets are the other's.
+abbrev pub Sized : {V View : Type 0} → Landing → Pass V View → ℕ → Type 0
+Sized L pass to = Lengths pass.way L (length pass.from.now) to
+
+-- Each target place has gained what a pass brings it by the weight M of a voxel and a cell.
+abbrev pub Swept : {V View : Type 0} → Ops V → Pass V View → (ℕ → ℕ → ℕ) → List V → List V → Type 0
+Swept o pass M old new = Gained o pass.factor pass.from.now (weights pass.way M) old new
 
 -- The strips of voxels and of cells lie in the source and the target.
 abbrev pub Placed : Way → Strip → Strip → ℕ → ℕ → Type 0
@@ -65,41 +74,39 @@ pub record SlabOf (L : Landing) (s : Slab) : Type 0 where
   pub start : s.start ≡ slab_start L s.number
   pub stride : s.stride ≡ slab_stride L
   pub rise : s.rise ≡ rise L
-  pub crosses : Tabled s.crosses.now (L.crosses + 1) (L.U s.number)
-  pub heights : Tabled s.heights.now (L.heights + 1) (L.W s.number)
+  pub crosses : Tabled s.crosses.at.now (L.crosses + 1) (L.U s.number)
+  pub heights : Tabled s.heights.at.now (L.heights + 1) (L.W s.number)
 
 -- The numbers and the table of a column, its S stretch with the lower end first.
 pub record ColumnOf (L : Landing) (c : Column) : Type 0 where
   pub below : c.number < L.columns
   pub stride : c.stride ≡ L.columns
-  pub low : c.low ≡ int_min (L.S c.number) (L.S (c.number + 1))
-  pub high : c.high ≡ int_max (L.S c.number) (L.S (c.number + 1))
-  pub rows : Tabled c.rows.now (L.rows + 1) (L.T c.number)
+  pub low : c.over.low ≡ int_min (L.S c.number) (L.S (c.number + 1))
+  pub high : c.over.high ≡ int_max (L.S c.number) (L.S (c.number + 1))
+  pub rows : Tabled c.rows.at.now (L.rows + 1) (L.T c.number)
 
 -- The strip is the line of voxels of a slab, over the stretch of a column.
 pub record Meets (s : Slab) (c : Column) (strip : Strip) : Type 0 where
-  pub covers : Covers strip
   pub stride : strip.stride ≡ s.stride
-  pub edges : strip.edges.now ≡ s.crosses.now
-  pub low : strip.low ≡ c.low
-  pub high : strip.high ≡ c.high
+  pub edges : strip.edges.at.now ≡ s.crosses.at.now
+  pub low : strip.over.low ≡ c.over.low
+  pub high : strip.over.high ≡ c.over.high
 
 -- The strip is the cells of a column, over the stretch of a height.
 pub record CellLine (s : Slab) (c : Column) (l : ℕ) (strip : Strip) : Type 0 where
-  pub covers : Covers strip
   pub start : strip.start ≡ c.number
   pub stride : strip.stride ≡ c.stride
-  pub edges : strip.edges.now ≡ c.rows.now
-  pub low : strip.low ≡ slice_index_or s.heights.now l (pos 0)
-  pub high : strip.high ≡ slice_index_or s.heights.now (l + 1) (pos 0)
+  pub edges : strip.edges.at.now ≡ c.rows.at.now
+  pub low : strip.over.low ≡ slice_index_or s.heights.at.now l (pos 0)
+  pub high : strip.over.high ≡ slice_index_or s.heights.at.now (l + 1) (pos 0)
 
--- The numbers and tables of some columns side by side.
-pub record BlockOf (L : Landing) (b : Block) : Type 0 where
-  pub below : b.first + b.count ≤ L.columns
-  pub stride : b.stride ≡ L.columns
-  pub width : b.width ≡ L.rows + 1
-  pub columns : Tabled b.columns.now (b.count + 1) (λ i. L.S (b.first + i))
-  pub rows : Tabled b.rows.now (b.count * b.width) (λ i. L.T (b.first + i / b.width) (i % b.width))
+-- The numbers and tables of some columns side by side: `columns` holds their S edges, and `rows` their T edges, `width` for each.
+pub record BlockOf (L : Landing) (first count stride width : ℕ) (columns rows : List ℤ) : Type 0 where
+  pub below : first + count ≤ L.columns
+  pub stride_is : stride ≡ L.columns
+  pub width_is : width ≡ L.rows + 1
+  pub columns_are : Tabled columns (count + 1) (λ i. L.S (first + i))
+  pub rows_are : Tabled rows (count * width) (λ i. L.T (first + i / width) (i % width))
 
 -- A call that is not refused: where the view's cells stand in the working store, and how the view lands.
 pub record Answered (scan : Scan) (view volume working start cells : ℕ) (L : Landing) : Type 0 where

@@ -4,7 +4,7 @@ ghost use Rattle.scan.specs.Meanings.{plan_of};
 ghost use Rattle.sweeps.specs.Systems.{back};
 ghost use Rattle.sweeps.specs.Calls.{system_of, call_check, unless_refused};
 
-use crate::block::sweep;
+use crate::sweep::sweep;
 use crate::call::checked;
 use crate::pass::{Pass, Way};
 use scan::plan::Plan;

@@ -1,95 +1,148 @@
-ghost use Rattle.std.specs.Prelude.{◌≡◌, ◌+◌, ◌*◌, ◌≤◌, length};
-ghost use Rattle.scan.specs.Landing.{weight};
-ghost use Rattle.sweeps.specs.Strips.{Gained};
-ghost use Rattle.sweeps.specs.Passes.{weights, Sized, block_weight, BlockOf};
+ghost use Rattle.std.specs.Prelude.{◌≡◌, ◌+◌, ◌-◌, ◌*◌, ◌<◌, ◌≤◌, length, take, drop, pos, slice_index_or};
+ghost use Rattle.std.specs.Int.{int_min, int_max};
+ghost use Rattle.sweeps.specs.Passes.{Sized, Swept, column_weight, slab_weight, block_weight, slab_start, slab_stride, rise, SlabOf, ColumnOf, BlockOf};
 
-use crate::pass::{Block, Pass};
-use crate::slab::sweep_slab;
-use crate::table::{EdgeList, fill};
+use crate::crossing::Crossing;
+use crate::edges::LandedEdges;
+use crate::pass::{Column, Pass, Slab};
+use crate::table::filled;
+use geometry::direction::SlabAxis;
+use geometry::stretch::Stretch;
 use scan::landed::Landed;
 use values::value::Value;
 
-// The columns of a block: the row edges of so many fit a small table, and the slabs' edges are computed once for all of them.
-const BLOCK: usize = 16;
+// The most edges that an axis has.
+const MOST_EDGES: usize = 513;
 
-// The most row edges of a block.
-const MOST_ROW_EDGES: usize = 16 * 513;
+// Some columns of a view side by side, with the landed edges of them and of their rows, `width` for each column.
+#[derive(Drop)]
+pub(crate) struct Block<'a, V, L: Landed> {
+    pub(crate) pass: &'a Pass<'a, V, L>,
+    pub(crate) first: usize,
+    pub(crate) count: usize,
+    pub(crate) stride: usize,
+    pub(crate) width: usize,
+    pub(crate) columns: &'a [i64],
+    pub(crate) rows: &'a [i64],
+    ghost tables: { BlockOf (L.Landed.landing pass.now.view.now) first count stride width columns.now rows.now },
+}
 
-// Slab after slab.
-fn sweep_slabs<V: Value, L: Landed>(pass: &Pass<'_, V, L>, block: Block<'_>, to: &mut [V])
-    requires sized { Sized pass.now.way (L.Landed.landing pass.now.view.now) (length pass.now.from.now) (length to.old) }
-    requires block { BlockOf (L.Landed.landing pass.now.view.now) block }
-    ensures { Gained V.Value.ops pass.now.factor pass.now.from.now (weights pass.now.way (block_weight (L.Landed.landing pass.now.view.now) block.entry.first block.entry.count)) to.old to.new }
-{
-    let slabs = pass.view.slabs();
-    for number in 0..slabs {
-        sweep_slab(pass, block, number, to);
+impl<'a, V: Value, L: Landed> Block<'a, V, L> {
+    // Slab after slab.
+    pub(crate) fn sweep(&self, to: &mut [V])
+        requires { Sized (L.Landed.landing self.now.pass.now.view.now) self.now.pass.now (length to.old) }
+        ensures { Swept V.Value.ops self.now.pass.now (block_weight (L.Landed.landing self.now.pass.now.view.now) self.now.first self.now.count) to.old to.new }
+    {
+        for number in 0..self.pass.view.slabs() {
+            self.sweep_slab(number, to);
+        }
+    }
+
+    // One slab: its edges are computed once for the block, into tables of their numbers.
+    fn sweep_slab(&self, number: usize, to: &mut [V])
+        requires sized { Sized (L.Landed.landing self.now.pass.now.view.now) self.now.pass.now (length to.old) }
+        requires number { number < (L.Landed.landing self.now.pass.now.view.now).slabs }
+        ensures { Swept V.Value.ops self.now.pass.now (slab_weight (L.Landed.landing self.now.pass.now.view.now) self.now.first self.now.count number) to.old to.new }
+    {
+        let view = self.pass.view;
+        let mut crosses = [0i64; MOST_EDGES];
+        let mut heights = [0i64; MOST_EDGES];
+        let crosses = filled(&mut crosses[0..view.crosses() + 1], |i| {
+            view.cross_edge(number, i)
+        });
+        let heights = filled(&mut heights[0..view.heights() + 1], |i| {
+            view.height_edge(number, i)
+        });
+        let crosses = LandedEdges { at: crosses };
+        let heights = LandedEdges { at: heights };
+        self.sweep_columns(slab_of(view, number, crosses, heights), to);
+    }
+
+    // Column after column.
+    fn sweep_columns(&self, slab: Slab<'_>, to: &mut [V])
+        requires sized { Sized (L.Landed.landing self.now.pass.now.view.now) self.now.pass.now (length to.old) }
+        requires slab { SlabOf (L.Landed.landing self.now.pass.now.view.now) slab }
+        ensures { Swept V.Value.ops self.now.pass.now (slab_weight (L.Landed.landing self.now.pass.now.view.now) self.now.first self.now.count slab.entry.number) to.old to.new }
+    {
+        let mut near = 0;
+        for offset in 0..self.count {
+            near = sweep_column(self.pass, slab, self.column(offset), near, to);
+        }
+    }
+
+    // A column by its number in the block.
+    fn column(&self, offset: usize) -> Column<'a>
+        requires { offset < self.now.count }
+        ensures number { result.number ≡ self.now.first + offset }
+        ensures column { ColumnOf (L.Landed.landing self.now.pass.now.view.now) result }
+    {
+        let start = offset * self.width;
+        Column {
+            number: self.first + offset,
+            stride: self.stride,
+            over: Stretch::between(self.columns[offset], self.columns[offset + 1]),
+            rows: LandedEdges {
+                at: &self.rows[start..start + self.width],
+            },
+        }
     }
 }
 
-// A block of columns, whose edges are computed once for all slabs, into tables of their numbers.
-fn sweep_tables<V: Value, L: Landed>(
+// One slab and one column. Answers where the run of voxels begins, for the next column.
+fn sweep_column<V: Value, L: Landed>(
     pass: &Pass<'_, V, L>,
-    first: usize,
-    count: usize,
-    columns: &mut [i64],
-    rows: &mut [i64],
+    slab: Slab<'_>,
+    column: Column<'_>,
+    near: usize,
     to: &mut [V],
-)
-    requires sized { Sized pass.now.way (L.Landed.landing pass.now.view.now) (length pass.now.from.now) (length to.old) }
-    requires below { first + count ≤ (L.Landed.landing pass.now.view.now).columns }
-    requires few { count ≤ 16 }
-    requires columns { length columns.old ≡ count + 1 }
-    requires rows { length rows.old ≡ count * ((L.Landed.landing pass.now.view.now).rows + 1) }
-    ensures { Gained V.Value.ops pass.now.factor pass.now.from.now (weights pass.now.way (block_weight (L.Landed.landing pass.now.view.now) first count)) to.old to.new }
+) -> usize
+    requires sized { Sized (L.Landed.landing pass.now.view.now) pass.now (length to.old) }
+    requires slab { SlabOf (L.Landed.landing pass.now.view.now) slab }
+    requires column { ColumnOf (L.Landed.landing pass.now.view.now) column }
+    requires near { near ≤ (L.Landed.landing pass.now.view.now).crosses }
+    ensures near { result ≤ (L.Landed.landing pass.now.view.now).crosses }
+    ensures swept { Swept V.Value.ops pass.now (column_weight (L.Landed.landing pass.now.view.now) slab.entry.number column.entry.number) to.old to.new }
 {
-    let stride = pass.view.columns();
-    let width = pass.view.rows() + 1;
-    fill(pass.view, EdgeList::Column { first }, columns);
-    fill(pass.view, EdgeList::Row { first, width }, rows);
-    sweep_slabs(
-        pass,
-        Block {
-            first,
-            count,
-            stride,
-            width,
-            columns,
-            rows,
-        },
-        to,
-    );
+    let voxels = slab.voxels_over(column.over, near);
+    if voxels.first < voxels.last {
+        let crossing = Crossing {
+            pass,
+            slab,
+            column,
+            voxels,
+        };
+        crossing.sweep(to);
+    }
+    voxels.first
 }
 
-fn sweep_block<V: Value, L: Landed>(pass: &Pass<'_, V, L>, first: usize, count: usize, to: &mut [V])
-    requires sized { Sized pass.now.way (L.Landed.landing pass.now.view.now) (length pass.now.from.now) (length to.old) }
-    requires below { first + count ≤ (L.Landed.landing pass.now.view.now).columns }
-    requires few { count ≤ 16 }
-    ensures { Gained V.Value.ops pass.now.factor pass.now.from.now (weights pass.now.way (block_weight (L.Landed.landing pass.now.view.now) first count)) to.old to.new }
+// Where the voxels of a slab stand, with its edges.
+fn slab_of<'a, L: Landed>(
+    view: &L,
+    number: usize,
+    crosses: LandedEdges<'a>,
+    heights: LandedEdges<'a>,
+) -> Slab<'a>
+    requires { number < (L.Landed.landing view.now).slabs }
+    ensures number { result.number ≡ number }
+    ensures start { result.start ≡ slab_start (L.Landed.landing view.now) number }
+    ensures stride { result.stride ≡ slab_stride (L.Landed.landing view.now) }
+    ensures rise { result.rise ≡ rise (L.Landed.landing view.now) }
+    ensures crosses { result.crosses.at.now ≡ crosses.entry.at.now }
+    ensures heights { result.heights.at.now ≡ heights.entry.at.now }
 {
-    let width = pass.view.rows() + 1;
-    let mut columns = [0i64; BLOCK + 1];
-    let mut rows = [0i64; MOST_ROW_EDGES];
-    sweep_tables(
-        pass,
-        first,
-        count,
-        &mut columns[0..count + 1],
-        &mut rows[0..count * width],
-        to,
-    );
-}
-
-// The whole view: each target place gains the factor times the sum over all source places of the multiple by the weight.
-pub(crate) fn sweep<V: Value, L: Landed>(pass: &Pass<'_, V, L>, to: &mut [V])
-    requires sized { Sized pass.now.way (L.Landed.landing pass.now.view.now) (length pass.now.from.now) (length to.old) }
-    ensures { Gained V.Value.ops pass.now.factor pass.now.from.now (weights pass.now.way (weight (L.Landed.landing pass.now.view.now))) to.old to.new }
-{
-    let columns = pass.view.columns();
-    let mut first = 0;
-    while first < columns {
-        let count = BLOCK.min(columns - first);
-        sweep_block(pass, first, count, to);
-        first += count;
+    let slabs = view.slabs();
+    let across = view.crosses();
+    let (start, stride) = match view.along() {
+        SlabAxis::X => (number, slabs),
+        SlabAxis::Y => (number * across, 1),
+    };
+    Slab {
+        number,
+        start,
+        stride,
+        rise: slabs * across,
+        crosses,
+        heights,
     }
 }

@@ -1,5 +1,11 @@
+ghost use Rattle.std.specs.Prelude.{◌≡◌, ◌<◌, length};
+
+use crate::edges::LandedEdges;
+use crate::strip::Strip;
+use geometry::stretch::Stretch;
+
 // From voxels to cells, or from cells to voxels.
-#[derive(Clone, Copy)]
+#[derive(Clone, Copy, PartialEq, Eq, Debug)]
 pub(crate) enum Way {
     Forward,
     Back,
@@ -21,8 +27,8 @@ pub(crate) struct Slab<'a> {
     pub(crate) start: usize,
     pub(crate) stride: usize,
     pub(crate) rise: usize,
-    pub(crate) crosses: &'a [i64],
-    pub(crate) heights: &'a [i64],
+    pub(crate) crosses: LandedEdges<'a>,
+    pub(crate) heights: LandedEdges<'a>,
 }
 
 // One detector column: where its cells stand in the view, its stretch of the common plane, and the landed edges of its rows.
@@ -30,18 +36,30 @@ pub(crate) struct Slab<'a> {
 pub(crate) struct Column<'a> {
     pub(crate) number: usize,
     pub(crate) stride: usize,
-    pub(crate) low: i64,
-    pub(crate) high: i64,
-    pub(crate) rows: &'a [i64],
+    pub(crate) over: Stretch,
+    pub(crate) rows: LandedEdges<'a>,
 }
 
-// Some columns side by side, with the landed edges of them and of their rows, `width` for each column.
-#[derive(Clone, Copy)]
-pub(crate) struct Block<'a> {
-    pub(crate) first: usize,
-    pub(crate) count: usize,
-    pub(crate) stride: usize,
-    pub(crate) width: usize,
-    pub(crate) columns: &'a [i64],
-    pub(crate) rows: &'a [i64],
+impl<'a> Slab<'a> {
+    // The voxels of the slab at its lowest height, over a stretch.
+    pub(crate) fn voxels_over(self, over: Stretch, near: usize) -> Strip<'a>
+        requires { near < length self.crosses.at.now }
+        ensures place { (result.start ≡ self.entry.start) × (result.stride ≡ self.entry.stride) }
+        ensures edges { result.edges.at.now ≡ self.entry.crosses.at.now }
+        ensures stretch { (result.over.low ≡ over.low) × (result.over.high ≡ over.high) }
+    {
+        Strip::over(self.start, self.stride, self.crosses, over, near)
+    }
+}
+
+impl<'a> Column<'a> {
+    // The cells of the column, over a stretch.
+    pub(crate) fn cells_over(self, over: Stretch, near: usize) -> Strip<'a>
+        requires { near < length self.rows.at.now }
+        ensures place { (result.start ≡ self.entry.number) × (result.stride ≡ self.entry.stride) }
+        ensures edges { result.edges.at.now ≡ self.entry.rows.at.now }
+        ensures stretch { (result.over.low ≡ over.low) × (result.over.high ≡ over.high) }
+    {
+        Strip::over(self.number, self.stride, self.rows, over, near)
+    }
 }

@@ -10,5 +10,5 @@ returns g c p l =
     let a = c.args in
     c.scatter.ensures p l
     ∙ ap (o.plus (at o a.to.now p))
-    (ap (λ v. o.multiple v (strip_share a.target p)) (c.times.ensures ∙ ap (o.times a.factor) c.gather-sum.ensures)
+    (ap (λ v. o.multiple v (strip_share a.target p)) (c.times.ensures ∙ ap (o.times a.factor) c.gather.ensures)
     ∙ multiple_total g.met.V.Value.lawful a.factor a.from.now (strip_share a.source) (strip_share a.target p))

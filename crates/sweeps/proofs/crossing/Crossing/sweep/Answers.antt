@@ -1,0 +1,31 @@
+use Rattle.std.proofs.Common.{◌≡◌, sym, ap, subst, length, arith}
+use Rattle.sweeps.specs.Passes.{Sized, beam_weight, column_weight}
+use Rattle.sweeps.proofs.Levels.{summed, summed_none, summed_more, swept_as}
+use Rattle.sweeps.proofs.crossing.Crossing.sweep.Goals as goal
+
+pub loop-height-init : goal.loop-height-init
+loop-height-init g c =
+    let x = c.args.self.now in
+    let L = g.L.Landed.landing x.pass.now.view.now in
+    (omega arith, summed_none g.met.V.Value.lawful x.pass.now c.args.to.now (beam_weight L x.slab.number x.column.number))
+
+pub loop-height-preserved : goal.loop-height-preserved
+loop-height-preserved g c =
+    let x = c.args.self.now in
+    let L = g.L.Landed.landing x.pass.now.view.now in (
+      c.sweep_height-near.ensures.near,
+      summed_more g.met.V.Value.lawful x.pass.now c.args.to.now (beam_weight L x.slab.number x.column.number)
+          c.loop-height.height c.loop-height.to c.sweep_height-near.new.to c.loop-height.auto.to c.loop-height.invariant.1 c.sweep_height-near.ensures.swept,
+    )
+
+pub returns : goal.returns
+unfolding column_weight
+returns g c =
+    let x = c.args.self.now in
+    let L = g.L.Landed.landing x.pass.now.view.now in
+    let M = beam_weight L x.slab.number x.column.number in
+    let len = x.slab_of.heights.0 in
+    let cells = c.cells-height-end.ensures in
+    let end : c.loop-height.height ≡ L.heights = omega arith in
+    swept_as g.met.V.Value.lawful x.pass.now c.args.to.now (summed M c.loop-height.height) _ c.loop-height.to
+    (λ a b. ap (λ n. summed M n a b) end) c.loop-height.invariant.1

@@ -1,0 +1,39 @@
+use Rattle.std.proofs.Common.{w64, SFits, arith, rules}
+use borrow.Author.Differences.{ints}
+use Rattle.std.proofs.lemmas.Int.{to_z-of_z}
+use Rattle.sweeps.specs.Runs.{Covers}
+use Rattle.sweeps.proofs.Runs.{before_run, after_run, share_none}
+use Rattle.sweeps.proofs.strip.Strip.over.Goals as goal
+use Rattle.sweeps.proofs.strip.Strip.over.Goals.{then-over, else-over}
+
+pub invariant_of-result : goal.invariant_of-result
+invariant_of-result c =
+    let es = c.args.edges.at.now in
+    let rises = c.args.edges.rises in
+    let over = c.args.over in
+    let fl : SFits w64 over.low = search rules in
+    let fh : SFits w64 over.high = search rules in
+    let first = c.run_start-first.result in
+    let passed = simp to_z-of_z at c.run_start-first.ensures.passed in
+    let before = before_run es rises over.low over.high over.ordered 0 first (omega arith) (omega arith) (λ some. absurd (omega arith)) (λ i le. passed i) in
+    let covers : Covers es over.low over.high first c.if-over.last =
+    elim c.if-over.branch [
+      | then-over w ↦
+          let is = w.last-is in
+          record {
+            run = omega (arith, w.run_end-last.ensures.bound.0);
+            ends = omega (arith, w.run_end-last.ensures.bound.1);
+            before = before;
+            after = λ i le. after_run es rises over.low over.high over.ordered w.run_end-last.result (simp to_z-of_z at w.run_end-last.ensures.beyond) i (omega arith);
+          }
+      | else-over w ↦
+          let is = w.last-is in
+          let empty = simp to_z-of_z at w.if-over.false in
+          record {
+            run = omega arith;
+            ends = omega arith;
+            before = before;
+            after = λ i le l. share_none es rises over.low over.high over.ordered (omega (arith, ints)) i;
+          }
+    ] in
+    record { covers = covers }

@@ -1,0 +1,63 @@
+ghost use Rattle.std.specs.Prelude.{◌≡◌, ◌*◌, ◌<◌, ◌≤◌, length};
+ghost use Rattle.sweeps.specs.Strips.{strip_share};
+ghost use Rattle.sweeps.specs.Passes.{Sized, Swept, Placed, beam_weight, column_weight, SlabOf, ColumnOf, Meets};
+
+use crate::carry::carry;
+use crate::pass::{Column, Pass, Slab, Way};
+use crate::strip::Strip;
+use scan::landed::Landed;
+use values::value::Value;
+
+// Where a slab and a detector column meet in a pass, with the voxels of the slab over the column's stretch.
+#[derive(Drop)]
+pub(crate) struct Crossing<'a, V, L: Landed> {
+    pub(crate) pass: &'a Pass<'a, V, L>,
+    pub(crate) slab: Slab<'a>,
+    pub(crate) column: Column<'a>,
+    pub(crate) voxels: Strip<'a>,
+    ghost slab_of: { SlabOf (L.Landed.landing pass.now.view.now) slab },
+    ghost column_of: { ColumnOf (L.Landed.landing pass.now.view.now) column },
+    ghost meets: { Meets slab column voxels },
+}
+
+impl<V: Value, L: Landed> Crossing<'_, V, L> {
+    // Height after height of the slab.
+    pub(crate) fn sweep(&self, to: &mut [V])
+        requires { Sized (L.Landed.landing self.now.pass.now.view.now) self.now.pass.now (length to.old) }
+        ensures { Swept V.Value.ops self.now.pass.now (column_weight (L.Landed.landing self.now.pass.now.view.now) self.now.slab.number self.now.column.number) to.old to.new }
+    {
+        let mut near = 0;
+        for height in 0..self.slab.heights.cells() {
+            near = self.sweep_height(height, near, to);
+        }
+    }
+
+    // Carries what one line of voxels and the column exchange. Answers where the run of rows begins, for the next height.
+    fn sweep_height(&self, height: usize, near: usize, to: &mut [V]) -> usize
+        requires sized { Sized (L.Landed.landing self.now.pass.now.view.now) self.now.pass.now (length to.old) }
+        requires height { height < (L.Landed.landing self.now.pass.now.view.now).heights }
+        requires near { near ≤ (L.Landed.landing self.now.pass.now.view.now).rows }
+        ensures near { result ≤ (L.Landed.landing self.now.pass.now.view.now).rows }
+        ensures swept { Swept V.Value.ops self.now.pass.now (beam_weight (L.Landed.landing self.now.pass.now.view.now) self.now.slab.number self.now.column.number height) to.old to.new }
+    {
+        let cells = self
+            .column
+            .cells_over(self.slab.heights.stretch(height), near);
+        if cells.first < cells.last {
+            let voxels = self.voxels.moved(self.slab.start + height * self.slab.rise);
+            exchange(self.pass, voxels, cells, to);
+        }
+        cells.first
+    }
+}
+
+// Carries from the voxels of a line to the cells of a column, or from the cells to the voxels.
+fn exchange<V: Value, L>(pass: &Pass<'_, V, L>, voxels: Strip<'_>, cells: Strip<'_>, to: &mut [V])
+    requires { Placed pass.now.way voxels cells (length pass.now.from.now) (length to.old) }
+    ensures { Swept V.Value.ops pass.now (λ x c. strip_share voxels.entry x * strip_share cells.entry c) to.old to.new }
+{
+    match pass.way {
+        Way::Forward => carry(pass.factor, pass.from, voxels, to, cells),
+        Way::Back => carry(pass.factor, pass.from, cells, to, voxels),
+    }
+}

@@ -1,0 +1,81 @@
+ghost use Rattle.std.specs.Prelude.{◌≡◌, ℕ, ◌+◌, ◌-◌, ◌<◌, ◌≤◌, length, pos, ◌≤ℤ◌, slice_index_or};
+ghost use Rattle.sweeps.specs.Runs.{Rising};
+
+use geometry::stretch::Stretch;
+
+// The landed edges of cells side by side, at least one edge, which never go down.
+#[derive(Clone, Copy)]
+pub(crate) struct LandedEdges<'a> {
+    pub(crate) at: &'a [i64],
+    ghost some: { 0 < length at.now },
+    ghost rises: { Rising at.now },
+}
+
+impl LandedEdges<'_> {
+    // The number of cells.
+    pub(crate) fn cells(self) -> usize
+        ensures { result ≡ length self.entry.at.now - 1 }
+    {
+        self.at.len() - 1
+    }
+
+    // The stretch of a cell.
+    pub(crate) fn stretch(self, cell: usize) -> Stretch
+        requires { cell < length self.at.now - 1 }
+        ensures low { result.low ≡ slice_index_or self.entry.at.now cell (pos 0) }
+        ensures high { result.high ≡ slice_index_or self.entry.at.now (cell + 1) (pos 0) }
+    {
+        Stretch {
+            low: self.at[cell],
+            high: self.at[cell + 1],
+        }
+    }
+
+    // From `near` down, the first edge that is not above `low`, or edge 0.
+    fn stepped_down(self, low: i64, near: usize) -> usize
+        requires { near < length self.at.now }
+        ensures bound { result ≤ near }
+        ensures below { 0 < result → slice_index_or self.entry.at.now result (pos 0) ≤ℤ low }
+    {
+        let edges = self.at;
+        (1..near + 1)
+            .rev()
+            .find(|edge| edges[*edge] <= low)
+            .unwrap_or(0)
+    }
+
+    // From `start` up, the first cell whose upper edge lies above `low`, or the number of cells.
+    fn stepped_up(self, low: i64, start: usize) -> usize
+        requires { start < length self.at.now }
+        ensures bound { (start ≤ result) × (result < length self.entry.at.now) }
+        ensures passed { (i : ℕ) → start ≤ i → i < result → slice_index_or self.entry.at.now (i + 1) (pos 0) ≤ℤ low }
+    {
+        let edges = self.at;
+        let cells = edges.len() - 1;
+        (start..cells)
+            .find(|cell| low < edges[*cell + 1])
+            .unwrap_or(cells)
+    }
+
+    // From `start` up, the first cell whose lower edge is not below `high`, or the number of cells.
+    pub(crate) fn run_end(self, high: i64, start: usize) -> usize
+        requires { start < length self.at.now }
+        ensures bound { (start ≤ result) × (result < length self.entry.at.now) }
+        ensures beyond { result + 1 < length self.entry.at.now → high ≤ℤ slice_index_or self.entry.at.now result (pos 0) }
+    {
+        let edges = self.at;
+        let cells = edges.len() - 1;
+        (start..cells)
+            .find(|cell| high <= edges[*cell])
+            .unwrap_or(cells)
+    }
+
+    // From `near` on, whichever way, the first cell whose upper edge lies above `low`, or the number of cells.
+    pub(crate) fn run_start(self, low: i64, near: usize) -> usize
+        requires { near < length self.at.now }
+        ensures bound { result < length self.entry.at.now }
+        ensures passed { (i : ℕ) → i < result → slice_index_or self.entry.at.now (i + 1) (pos 0) ≤ℤ low }
+    {
+        self.stepped_up(low, self.stepped_down(low, near))
+    }
+}

@@ -1,0 +1,51 @@
+ghost use Rattle.std.specs.Prelude.{◌+◌, ◌≤◌, length};
+ghost use Rattle.scan.specs.Landing.{weight};
+ghost use Rattle.sweeps.specs.Passes.{Sized, Swept, block_weight};
+
+use crate::block::Block;
+use crate::pass::Pass;
+use crate::table::filled;
+use scan::landed::Landed;
+use values::value::Value;
+
+// The columns of a block: the row edges of so many fit a small table, and the slabs' edges are computed once for all of them.
+const BLOCK: usize = 16;
+
+// The most row edges of a block.
+const MOST_ROW_EDGES: usize = 16 * 513;
+
+// The whole view: each target place gains the factor times the sum over all source places of the multiple by the weight.
+pub(crate) fn sweep<V: Value, L: Landed>(pass: &Pass<'_, V, L>, to: &mut [V])
+    requires { Sized (L.Landed.landing pass.now.view.now) pass.now (length to.old) }
+    ensures { Swept V.Value.ops pass.now (weight (L.Landed.landing pass.now.view.now)) to.old to.new }
+{
+    let columns = pass.view.columns();
+    for first in (0..columns).step_by(BLOCK) {
+        sweep_block(pass, first, BLOCK.min(columns - first), to);
+    }
+}
+
+// A block of columns, whose edges are computed once for all slabs, into tables of their numbers.
+fn sweep_block<V: Value, L: Landed>(pass: &Pass<'_, V, L>, first: usize, count: usize, to: &mut [V])
+    requires sized { Sized (L.Landed.landing pass.now.view.now) pass.now (length to.old) }
+    requires below { first + count ≤ (L.Landed.landing pass.now.view.now).columns }
+    requires few { count ≤ 16 }
+    ensures { Swept V.Value.ops pass.now (block_weight (L.Landed.landing pass.now.view.now) first count) to.old to.new }
+{
+    let view = pass.view;
+    let width = view.rows() + 1;
+    let mut columns = [0i64; BLOCK + 1];
+    let mut rows = [0i64; MOST_ROW_EDGES];
+    let block = Block {
+        pass,
+        first,
+        count,
+        stride: view.columns(),
+        width,
+        columns: filled(&mut columns[0..count + 1], |i| view.column_edge(first + i)),
+        rows: filled(&mut rows[0..count * width], |i| {
+            view.row_edge(first + i / width, i % width)
+        }),
+    };
+    block.sweep(to);
+}
