@@ -4,12 +4,27 @@ use lib.Arith.{digits_div, digits_mod}
 use Rattle.std.specs.Int.{int_min, int_max}
 use Rattle.std.proofs.lemmas.List.{get_or-take, get_or-drop, length-take-le, length-drop}
 use Rattle.scan.specs.Landing.{Landing}
-use Rattle.sweeps.specs.Passes.{ColumnOf, BlockOf}
+use Rattle.sweeps.specs.Tables.{Tabled}
+use Rattle.sweeps.specs.Passes.{slab_start, slab_stride, rise, SlabOf, ColumnOf, BlockOf}
 use Rattle.sweeps.specs.declared.pass.Column.{Column}
+use Rattle.sweeps.specs.declared.pass.Slab.{Slab}
 
 -- the end of row m of a table
 pub row_end : (m rows columns : ℕ) → m < rows → m * columns + columns ≤ rows * columns
 row_end m rows columns h = let more : m + 1 ≤ rows = omega arith in omega (arith, mul-le-mul_right columns more, add-mul m 1 columns, one-mul columns)
+
+-- the numbers and tables of a slab, from those of its number
+pub slab_is : (L : Landing) (j : ℕ) (s : Slab) → j < L.slabs → s.number ≡ j → s.start ≡ slab_start L j → s.stride ≡ slab_stride L → s.rise ≡ rise L
+    → (us ws : List ℤ) → s.crosses.at.now ≡ us → s.heights.at.now ≡ ws → Tabled us (L.crosses + 1) (L.U j) → Tabled ws (L.heights + 1) (L.W j) → SlabOf L s
+slab_is L j s below number start stride rise us ws crosses heights U W =
+    record {
+      below = omega arith;
+      start = start ∙ ap (slab_start L) (sym number);
+      stride = stride;
+      rise = rise;
+      crosses = (ap length crosses ∙ U.0, λ i h. ap (λ es. slice_index_or es i (pos 0)) crosses ∙ U.1 i h ∙ ap (λ n. L.U n i) (sym number));
+      heights = (ap length heights ∙ W.0, λ i h. ap (λ es. slice_index_or es i (pos 0)) heights ∙ W.1 i h ∙ ap (λ n. L.W n i) (sym number));
+    }
 
 module _ (L : Landing) (first count stride width : ℕ) (columns rows : List ℤ) (bo : BlockOf L first count stride width columns rows) (d : ℕ) (below : d < count) where
   abbrev part : List ℤ
@@ -33,6 +48,13 @@ module _ (L : Landing) (first count stride width : ℕ) (columns rows : List ℤ
       ∙ bo.rows_are.1 (d * width + m) inside
       ∙ ap₂ (λ k n. L.T (first + k) n) (digits_div d h) (digits_mod d h)
 
+  -- the part of the table that is one column's
+  pub part_tabled : Tabled part (L.rows + 1) (L.T (first + d))
+  part_tabled = (part_length ∙ bo.width_is, λ m h. let wide = bo.width_is in part_edge m (omega arith))
+
+  pub part_some : 0 < length part
+  part_some = let e = part_tabled.0 in omega arith
+
   pub block_column : (c : Column) → c.number ≡ first + d → c.stride ≡ stride
       → c.over.low ≡ int_min (slice_index_or columns d (pos 0)) (slice_index_or columns (d + 1) (pos 0))
       → c.over.high ≡ int_max (slice_index_or columns d (pos 0)) (slice_index_or columns (d + 1) (pos 0))
@@ -47,8 +69,5 @@ module _ (L : Landing) (first count stride width : ℕ) (columns rows : List ℤ
         stride = is_stride ∙ bo.stride_is;
         low = low ∙ ap₂ int_min one other;
         high = high ∙ ap₂ int_max one other;
-        rows = (
-          ap length is_rows ∙ part_length ∙ bo.width_is,
-          λ m h. let wide_is = bo.width_is in ap (λ es. slice_index_or es m (pos 0)) is_rows ∙ part_edge m (omega arith) ∙ ap (λ k. L.T k m) (sym number),
-        );
+        rows = (ap length is_rows ∙ part_tabled.0, λ m h. ap (λ es. slice_index_or es m (pos 0)) is_rows ∙ part_tabled.1 m h ∙ ap (λ k. L.T k m) (sym number));
       }
