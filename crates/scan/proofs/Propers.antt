@@ -40,13 +40,7 @@ even_length first pitch n = length-map-range_with_len (even_edge first pitch) 0 
 pub even_edge_at : (first pitch : ℤ) (n i : ℕ) → i < n + 1 → slice_index_or (even_edges first pitch n) i (pos 0) ≡ even_edge first pitch i
 even_edge_at first pitch n i l = get_or-map-range_with_len (even_edge first pitch) 0 (n + 1) i i (pos 0) l (omega arith)
 
-pub even_rises : (first pitch : ℤ) (n : ℕ) → edges_check (n + 1) (even_edge first pitch) ≡ None → Rises (even_edges first pitch n)
-even_rises first pitch n = rises (n + 1) (even_edge first pitch) (even_edges first pitch n) (even_length first pitch n) (even_edge_at first pitch n)
-
-pub even_within : (first pitch : ℤ) (n : ℕ) → edges_check (n + 1) (even_edge first pitch) ≡ None → Within (even_edges first pitch n)
-even_within first pitch n = within (n + 1) (even_edge first pitch) (even_edges first pitch n) (even_length first pitch n) (even_edge_at first pitch n)
-
-pub count_within : (found least most : ℕ) → count_check found least most ≡ None → (least ≤ found) × (found ≤ most)
+count_within : (found least most : ℕ) → count_check found least most ≡ None → (least ≤ found) × (found ≤ most)
 count_within found least most e =
     let p = or_parts _ _ (cond_none _ _ e) in
     (ltb-false found least p.0, ltb-false most found p.1)
@@ -64,3 +58,15 @@ listed_proper es vs e counted passed =
       rises = rises (length es) (λ i. get_or es i (pos 0)) es refl (λ i l. refl) passed;
       within = within (length es) (λ i. get_or es i (pos 0)) es refl (λ i l. refl) passed;
     })
+
+pub even_proper : (first pitch : ℤ) (n : ℕ) → count_check n 1 512 ≡ None → edges_check (n + 1) (even_edge first pitch) ≡ None → Proper (even_edges first pitch n)
+even_proper first pitch n counted passed =
+    let few = count_within n 1 512 counted in
+    let es = even_edges first pitch n in
+    let long = even_length first pitch n in
+    record {
+      least = omega (arith, few.0);
+      most = omega (arith, few.1);
+      rises = rises (n + 1) (even_edge first pitch) es long (even_edge_at first pitch n) passed;
+      within = within (n + 1) (even_edge first pitch) es long (even_edge_at first pitch n) passed;
+    }

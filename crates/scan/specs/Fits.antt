@@ -27,9 +27,6 @@ number_at [] v step l e = absurd (omega arith)
 number_at (first ∷ rest) zero step l e = ap (λ (s : Step). s.number) e
 number_at (first ∷ rest) (suc v) step l e = number_at rest v step (omega arith) e
 
-listed : (axis : ListedAxis) → Proper (vec_items axis.edges)
-listed axis = record { least = axis.least; most = axis.most; rises = axis.rises; within = axis.within }
-
 pub fitted : (plan : Plan) → Fitted (plan_of plan)
 fitted plan =
     let far = plan.layout.distances in
@@ -38,11 +35,11 @@ fitted plan =
       source_most = omega (arith, ints, far.source_some, far.source_most);
       panel_least = far.panel_least;
       panel_most = omega (arith, ints, far.source_some, far.panel_least, far.panel_most);
-      x = listed plan.layout.x;
-      y = listed plan.layout.y;
-      z = listed plan.layout.z;
-      column = listed plan.layout.column;
-      row = listed plan.layout.row;
+      x = plan.layout.x.proper;
+      y = plan.layout.y.proper;
+      z = plan.layout.z.proper;
+      column = plan.layout.column.proper;
+      row = plan.layout.row.proper;
       near = plan.layout.near;
       reaches = plan.layout.reaches;
       steps = step_below (vec_items plan.views);

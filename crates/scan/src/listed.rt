@@ -1,6 +1,6 @@
 // An axis whose edges are listed.
-ghost use Rattle.std.specs.Prelude.{◌≡◌, ◌≤◌, length, pos, IfOk, slice_index_or};
-ghost use Rattle.scan.specs.Axes.{Rises, Within};
+ghost use Rattle.std.specs.Prelude.{◌≡◌, length, pos, IfOk, slice_index_or};
+ghost use Rattle.scan.specs.Axes.{Proper};
 ghost use Rattle.scan.specs.Checks.{Outcome, listed_check};
 
 use crate::axis::Axis;
@@ -25,10 +25,7 @@ impl Edges for &[i32] {
 #[derive(Drop)]
 pub struct ListedAxis {
     pub(crate) edges: Vec<i32>,
-    ghost least: { 2 ≤ length edges.items },
-    ghost most: { length edges.items ≤ 513 },
-    ghost rises: { Rises edges.items },
-    ghost within: { Within edges.items },
+    ghost proper: { Proper edges.items },
 }
 
 impl ListedAxis {
@@ -58,7 +55,7 @@ impl ListedAxis {
 impl Axis for ListedAxis {
     ghost edges = { λ a. a.edges.items };
 
-    ghost proper = { λ a. record { least = a.least; most = a.most; rises = a.rises; within = a.within } };
+    ghost proper = { λ a. a.proper };
 
     fn cells(&self) -> usize {
         self.edges.len() - 1

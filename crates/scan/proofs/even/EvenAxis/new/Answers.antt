@@ -1,7 +1,7 @@
 use Rattle.std.proofs.Common.{w32, to_z, of_z}
 use Rattle.std.proofs.lemmas.Result.{err_from_is_err_and}
 use Rattle.std.proofs.lemmas.Int.{to_z-of_z}
-use Rattle.scan.proofs.Propers.{even_rises, even_within, count_within, after_none}
+use Rattle.scan.proofs.Propers.{even_proper, after_none}
 use Rattle.scan.proofs.even.EvenAxis.new.Goals as goal
 
 pub returns-in_err-check_edges : goal.returns-in_err-check_edges
@@ -16,8 +16,4 @@ invariant_of-result c =
     let first = to_z w32 (of_z w32 c.args.first) in
     let pitch = to_z w32 (of_z w32 c.args.pitch) in
     let passed = c.in_ok-check_edges.ensures.0 in
-    record {
-      some = (count_within c.args.cells 1 512 c.in_ok-check_count.ensures.0).0;
-      rises = even_rises first pitch c.args.cells passed;
-      within = even_within first pitch c.args.cells passed;
-    }
+    record { proper = even_proper first pitch c.args.cells c.in_ok-check_count.ensures.0 passed }

@@ -10,7 +10,7 @@ overflow_cast-result c =
     let long = even_length a.first a.pitch a.cells in
     let same = even_edge_at a.first a.pitch a.cells c.min.result (omega arith) in
     let size = ap nat_abs (c.get.ensures ∙ sym same) in
-    let small = c.args.self.now.within c.min.result (omega arith) in
+    let small = c.args.self.now.proper.within c.min.result (omega arith) in
     let f : SFits w64 c.get.result = search rules in
     simp to_z-of_z (omega (arith, ints))
 
@@ -21,7 +21,7 @@ returns c =
     let long = even_length a.first a.pitch a.cells in
     let same = even_edge_at a.first a.pitch a.cells c.min.result (omega arith) in
     let size = ap nat_abs (c.get.ensures ∙ sym same) in
-    let small = c.args.self.now.within c.min.result (omega arith) in
+    let small = c.args.self.now.proper.within c.min.result (omega arith) in
     let whole : SFits w64 c.get.result = search rules in
     let half : SFits w32 c.get.result = omega (arith, ints) in
     let place : c.min.result ≡ min c.args.i (length es - 1) = omega arith in

@@ -18,8 +18,7 @@ invariant_of-result g c =
     let es = g.A.Axis.edges c.args.axis.now in
     let proper = g.met.A.Axis.proper c.args.axis.now in
     let all = c.loop-i.invariant ∙ take_all c.loop-i.i es (omega arith) in
-    let p = subst Proper (sym all) proper in
-    record { least = p.least; most = p.most; rises = p.rises; within = p.within }
+    record { proper = subst Proper (sym all) proper }
 
 pub returns : goal.returns
 returns g c =
