@@ -124,8 +124,8 @@ impl Draft {
                 z,
                 column,
                 row,
+                views: Vec::new(heap),
             },
-            views: Vec::new(heap),
         })
     }
 
@@ -134,9 +134,9 @@ impl Draft {
         ensures value { Outcome (view_check (length (draft_of self.old).steps) step) (λ n. n ≡ length (draft_of self.old).steps) result }
         ensures after { draft_of self.new ≡ elim result [ Ok n ↦ with_view (draft_of self.old) (unsigned_abs step) | Err e ↦ draft_of self.old ] }
     {
-        let views = self.views.len();
+        let views = self.layout.views();
         let step = check_view(views, step)?;
-        self.views.push(step)?;
+        self.layout.views.push(step)?;
         Ok(views)
     }
 
@@ -144,7 +144,7 @@ impl Draft {
     pub fn views(&self) -> usize
         ensures { result ≡ length (draft_of self.now).steps }
     {
-        self.views.len()
+        self.layout.views()
     }
 
     // The plan of the scan as it stands.
@@ -152,7 +152,8 @@ impl Draft {
         ensures holds { plan_of result ≡ draft_of self }
         ensures fitted { Fitted (plan_of result) }
     {
-        let Draft { layout, views } = self;
-        Plan { layout, views }
+        Plan {
+            layout: self.layout,
+        }
     }
 }
