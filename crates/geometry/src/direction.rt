@@ -1,5 +1,5 @@
 // The direction of a view.
-ghost use Rattle.std.specs.Prelude.{◌≤◌, unsigned_abs};
+ghost use Rattle.geometry.specs.Steep.{Steep};
 
 // The axis whose cells are the slabs: the one along which the central ray runs more, and y at a tie.
 #[derive(Clone, Copy, PartialEq, Eq, Debug)]
@@ -24,7 +24,5 @@ pub struct Direction {
     pub slabs: SlabAxis,
     pub a: i64,
     pub b: i64,
-    ghost least: { 11585 ≤ unsigned_abs a },
-    ghost most: { unsigned_abs a ≤ 16384 },
-    ghost side: { unsigned_abs b ≤ unsigned_abs a },
+    ghost steep: { Steep a b },
 }
