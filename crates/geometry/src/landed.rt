@@ -105,32 +105,33 @@ mod tests {
         }
     }
 
+    // Where the edges at -100, 0 and 100 across, and at -50 and 50 up, land from a slab at step 0.
+    fn landed(slab: Cell) -> ([i64; 3], [i64; 2]) {
+        let pose = pose(Step { number: 0 });
+        let across = [Edge { at: -100 }, Edge { at: 0 }, Edge { at: 100 }];
+        let up = [Edge { at: -50 }, Edge { at: 50 }];
+        (
+            across.map(|e| pose.cross_edge(slab, e)),
+            up.map(|z| pose.height_edge(slab, z)),
+        )
+    }
+
     #[test]
     fn voxels_toward_the_source_land_wider(rt: HostRuntime) {
-        let pose = pose(Step { number: 0 });
         let slab = Cell {
             low: Edge { at: 0 },
             high: Edge { at: 100 },
         };
-        assert_eq!(rt; pose.cross_edge(slab, Edge { at: -100 }), -106);
-        assert_eq!(rt; pose.cross_edge(slab, Edge { at: 0 }), 0);
-        assert_eq!(rt; pose.cross_edge(slab, Edge { at: 100 }), 105);
-        assert_eq!(rt; pose.height_edge(slab, Edge { at: -50 }), -53);
-        assert_eq!(rt; pose.height_edge(slab, Edge { at: 50 }), 52);
+        assert_eq!(rt; landed(slab), ([-106, 0, 105], [-53, 52]));
     }
 
     #[test]
     fn voxels_beyond_the_axis_land_narrower(rt: HostRuntime) {
-        let pose = pose(Step { number: 0 });
         let slab = Cell {
             low: Edge { at: -100 },
             high: Edge { at: 0 },
         };
-        assert_eq!(rt; pose.cross_edge(slab, Edge { at: -100 }), -96);
-        assert_eq!(rt; pose.cross_edge(slab, Edge { at: 0 }), 0);
-        assert_eq!(rt; pose.cross_edge(slab, Edge { at: 100 }), 95);
-        assert_eq!(rt; pose.height_edge(slab, Edge { at: -50 }), -48);
-        assert_eq!(rt; pose.height_edge(slab, Edge { at: 50 }), 47);
+        assert_eq!(rt; landed(slab), ([-96, 0, 95], [-48, 47]));
     }
 
     #[test]

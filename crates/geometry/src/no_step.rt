@@ -34,3 +34,16 @@ impl fmt::Display for NoStep {
 }
 
 impl Error for NoStep {}
+
+#[cfg(test)]
+mod tests {
+    use super::*;
+
+    #[test]
+    fn numbers_from_0_to_63_have_a_step(rt: HostRuntime) {
+        assert_eq!(rt; Step::try_from(0), Ok(Step { number: 0 }));
+        assert_eq!(rt; Step::try_from(63), Ok(Step { number: 63 }));
+        assert_eq!(rt; Step::try_from(64), Err(NoStep { number: 64 }));
+        assert_eq!(rt; Step::try_from(-1), Err(NoStep { number: -1 }));
+    }
+}
