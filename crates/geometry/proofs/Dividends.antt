@@ -10,13 +10,13 @@ pub place : (e : Edge) → Reads (again e.at) e.at 4194304
 place e = arg e.at e.within tt
 
 pub source : (d : Distances) → Reads (again d.source) d.source (2 ^ 24)
-source d = arg d.source d.source_most tt
+source d = arg d.source d.admitted.source_most tt
 
 pub main : (t : Direction) → Reads (again t.a) t.a 16384
-main t = arg t.a t.most tt
+main t = arg t.a t.steep.most tt
 
 pub side : (t : Direction) → Reads (again t.b) t.b 16384
-side t = arg t.b (omega (arith, t.most, t.side)) tt
+side t = arg t.b (omega (arith, t.steep.most, t.steep.side)) tt
 
 -- of operands A and B that are the parts a and b of a direction
 module _ {A B a b : ℤ} (main : Reads A a 16384) (side : Reads B b 16384) where

@@ -3,7 +3,8 @@ use Rattle.std.proofs.Common.{◌<◌, ℤ, pos, ◌-ℤ◌, ◌*ℤ◌, nat_abs
 use borrow.Author.Differences.{ints}
 use Rattle.geometry.specs.Landed.{depth, slant}
 use Rattle.geometry.proofs.Size.{abs_times, abs_times_3, SameSide, lead_side, times_side, side_trans}
-use Rattle.geometry.proofs.Conditions.{Steep, Placed, Reached, Beside}
+use Rattle.geometry.specs.Steep.{Steep}
+use Rattle.geometry.proofs.Conditions.{Placed, Reached, Beside}
 
 -- where x lies beside a and y is less, x - y does
 beside_minus : (a x y : ℤ) → SameSide a x → nat_abs y < nat_abs x → Beside a (x -ℤ y)

@@ -9,7 +9,8 @@ use Rattle.geometry.proofs.FloorLaws.{floor_rises, floor_falls, floor_cross, flo
 use Rattle.geometry.proofs.Products.{*ℤ-assoc, *ℤ--ℤ, times_up, times_down, times_left}
 use Rattle.geometry.proofs.Size.{times_side}
 use Rattle.geometry.proofs.Divisors.{depth_beside, slant_beside}
-use Rattle.geometry.proofs.Conditions.{Steep, Placed, Reached, Beside}
+use Rattle.geometry.specs.Steep.{Steep}
+use Rattle.geometry.proofs.Conditions.{Placed, Reached, Beside}
 
 -- m comes before n where a is above 0, and after it where a is below
 abbrev Along : ℤ → ℤ → ℤ → Type 0

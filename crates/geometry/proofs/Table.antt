@@ -4,9 +4,8 @@ use Rattle.std.proofs.lemmas.Bool.{leb-true, le-leb, lt-leb, and_parts}
 use Rattle.std.proofs.lemmas.Bool.Decides.{Decides-below_and}
 use Rattle.geometry.specs.declared.direction.SlabAxis.{SlabAxis}
 use Rattle.geometry.specs.declared.direction.SlabAxis.TheVariants.{X, Y}
-use Rattle.geometry.specs.declared.direction.Direction.{Direction}
 use Rattle.geometry.specs.Turn.{sine, sin_of, cos_of, Round, slabs_by, main_part, side_part, slab_axis, main_of, side_of}
-use Rattle.geometry.proofs.Conditions.{Steep}
+use Rattle.geometry.specs.Steep.{Steep}
 
 -- the test passes at each number below n
 abbrev all_below : (ℕ → Bool) → ℕ → Bool
@@ -39,9 +38,6 @@ all_steep q h =
     let t = and_parts (leb 11585 (nat_abs (main_of q))) (leb (nat_abs (main_of q)) 16384 && leb (nat_abs (side_of q)) (nat_abs (main_of q))) (from_all steep_at 64 refl q h) in
     let u = and_parts (leb (nat_abs (main_of q)) 16384) (leb (nat_abs (side_of q)) (nat_abs (main_of q))) t.1 in
     record { least = leb-true 11585 _ t.0; most = leb-true _ 16384 u.0; side = leb-true _ _ u.1 }
-
-pub steep : (d : Direction) → Steep d.a d.b
-steep d = record { least = d.least; most = d.most; side = d.side }
 
 -- a sine and a cosine that are the step's lie near the circle
 pub round_at_each : (q : ℕ) (s c : ℤ) → q < 64 → s ≡ sin_of q → c ≡ cos_of q → Round s c

@@ -7,7 +7,8 @@ use Rattle.geometry.proofs.Size.{abs_times, abs_times_3, abs_plus}
 use Rattle.geometry.proofs.Divisors.{depth_beside}
 use Rattle.geometry.proofs.Words.{Reads}
 use Rattle.geometry.proofs.Dividends.{cross_made, height_made, column_made}
-use Rattle.geometry.proofs.Conditions.{Steep, Placed}
+use Rattle.geometry.specs.Steep.{Steep}
+use Rattle.geometry.proofs.Conditions.{Placed}
 
 -- a number as its own operand
 own : (x : ℤ) {A : ℕ} → nat_abs x ≤ A → Reads x x A

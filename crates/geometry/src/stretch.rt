@@ -1,0 +1,36 @@
+// A stretch of an axis.
+ghost use Rattle.std.specs.Prelude.{◌≡◌, ◌≤ℤ◌};
+ghost use Rattle.std.specs.Int.{int_min, int_max};
+ghost use Rattle.geometry.specs.Overlap.{overlap, Conserved};
+
+use crate::overlap::gap;
+
+// What lies between two ends of an axis, the lower end first.
+#[derive(Clone, Copy, PartialEq, Eq, Debug)]
+pub struct Stretch {
+    pub low: i64,
+    pub high: i64,
+    ghost ordered: { low ≤ℤ high },
+}
+
+impl Stretch {
+    // The stretch between two ends, which stand in either order.
+    pub fn between(one: i64, other: i64) -> Stretch
+        ensures low { result.low ≡ int_min one other }
+        ensures high { result.high ≡ int_max one other }
+    {
+        Stretch {
+            low: one.min(other),
+            high: one.max(other),
+        }
+    }
+
+    // How far two stretches overlap. The overlaps of a stretch with stretches that follow one another one way add up to
+    // its overlap with the whole: nothing is lost or counted twice.
+    pub fn overlap(self, other: Stretch) -> u64
+        ensures value { result ≡ overlap self.low self.high other.low other.high }
+        ensures conserved { Conserved }
+    {
+        gap(self.low.max(other.low), self.high.min(other.high))
+    }
+}
