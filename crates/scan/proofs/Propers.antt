@@ -1,5 +1,5 @@
 -- Edges that pass every check are those of an axis. Assumes nothing.
-use Rattle.std.specs.Prelude.{◌≡◌, ℕ, ◌+◌, ◌-◌, ◌<◌, ◌≤◌, Bool, false, List, length, get_or, ℤ, pos, ◌<ℤ◌, Some, None, Option, int_le, nat_lt, slice_index_or, unsigned_abs, refl}
+use Rattle.std.specs.Prelude.{◌≡◌, ℕ, ◌+◌, ◌-◌, ◌<◌, ◌≤◌, Bool, false, List, length, ℤ, pos, ◌<ℤ◌, Some, None, Option, int_le, nat_lt, slice_index_or, unsigned_abs, refl}
 use Rattle.std.proofs.Common.{arith}
 use Rattle.std.proofs.lemmas.Int.{ints}
 use Rattle.std.proofs.lemmas.Bool.{ltb-false, or_parts}
@@ -7,7 +7,7 @@ use Rattle.std.proofs.lemmas.List.FromFn.{length-map-range_with_len, get_or-map-
 use Rattle.std.specs.Option.{option_or, option_map}
 use Rattle.scan.specs.Axes.{Proper, Rises, Within, even_edge, even_edges}
 use Rattle.scan.specs.Checks.{first_outside, first_not_rising, edges_check, count_check}
-use Rattle.scan.proofs.Firsts.{or_none, cond_none, first_none}
+use Rattle.scan.proofs.Firsts.{or_none, if_none, first_none}
 
 pub mapped_none : {X Y : Type 0} (f : X → Y) (o : Option X) → option_map f o ≡ None → o ≡ None
 mapped_none f None e = refl
@@ -42,21 +42,21 @@ even_edge_at first pitch n i l = get_or-map-range_with_len (even_edge first pitc
 
 count_within : (found least most : ℕ) → count_check found least most ≡ None → (least ≤ found) × (found ≤ most)
 count_within found least most e =
-    let p = or_parts _ _ (cond_none _ _ e) in
+    let p = or_parts _ _ (if_none _ _ e) in
     (ltb-false found least p.0, ltb-false most found p.1)
 
 -- the checks one after another
 pub after_none : {X : Type 0} (o p : Option X) {q : Option X} → o ≡ None → p ≡ q → option_or o p ≡ q
 after_none o p e f = rw e f
 
-pub listed_proper : (es vs : List ℤ) → vs ≡ es → count_check (length es) 2 513 ≡ None → edges_check (length es) (λ i. get_or es i (pos 0)) ≡ None → Proper vs
+pub listed_proper : (es vs : List ℤ) → vs ≡ es → count_check (length es) 2 513 ≡ None → edges_check (length es) (λ i. slice_index_or es i (pos 0)) ≡ None → Proper vs
 listed_proper es vs e counted passed =
     let n = count_within (length es) 2 513 counted in
     rw e (record {
       least = n.0;
       most = n.1;
-      rises = rises (length es) (λ i. get_or es i (pos 0)) es refl (λ i l. refl) passed;
-      within = within (length es) (λ i. get_or es i (pos 0)) es refl (λ i l. refl) passed;
+      rises = rises (length es) (λ i. slice_index_or es i (pos 0)) es refl (λ i l. refl) passed;
+      within = within (length es) (λ i. slice_index_or es i (pos 0)) es refl (λ i l. refl) passed;
     })
 
 pub even_proper : (first pitch : ℤ) (n : ℕ) → count_check n 1 512 ≡ None → edges_check (n + 1) (even_edge first pitch) ≡ None → Proper (even_edges first pitch n)

@@ -4,14 +4,14 @@ use Rattle.std.proofs.Common.{sym}
 use Rattle.std.proofs.lemmas.Bool.{leb-false}
 use Rattle.scan.specs.Axes.{edge_of}
 use Rattle.scan.specs.Plans.{widest, reach_check, Near, Reaches}
-use Rattle.scan.proofs.Firsts.{or_none, cond_none, first_none}
+use Rattle.scan.proofs.Firsts.{or_none, if_none, first_none}
 use Rattle.scan.specs.Numbered.{edge_at}
 use Rattle.scan.proofs.Propers.{mapped_none}
 
 -- of the lists that hold the edges that were checked
 module _ (source panel : ℤ) (x y column : List ℤ) (passed : reach_check source panel x y column ≡ None) where
   pub kept_near : {vx vy : List ℤ} → vx ≡ x → vy ≡ y → Near source vx vy
-  kept_near ex ey = rw (ex, ey) (leb-false (unsigned_abs source) (2 * widest x y) (cond_none _ _ (or_none _ _ passed).0))
+  kept_near ex ey = rw (ex, ey) (leb-false (unsigned_abs source) (2 * widest x y) (if_none _ _ (or_none _ _ passed).0))
 
   reaches : Reaches panel column
   reaches i l =

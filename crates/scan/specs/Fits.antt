@@ -7,7 +7,6 @@ use Rattle.std.proofs.lemmas.Int.{ints}
 use Rattle.geometry.specs.declared.direction.SlabAxis.{SlabAxis}
 use Rattle.geometry.specs.declared.step.Step.{Step}
 use Rattle.scan.specs.declared.layout.Layout.{Layout}
-use Rattle.scan.specs.Axes.{Proper}
 use Rattle.scan.specs.Plans.{Scan, Fitted, landing_of}
 use Rattle.scan.specs.Meanings.{numbers, scan_of}
 
@@ -28,7 +27,7 @@ number_at (first ∷ rest) (suc v) step l e = number_at rest v step (omega arith
 
 pub fitted : (layout : Layout) → Fitted (scan_of layout)
 fitted layout =
-    let far = layout.distances in
+    let far = layout.distances.admitted in
     record {
       source_least = omega (arith, ints, far.source_some);
       source_most = omega (arith, ints, far.source_some, far.source_most);

@@ -26,7 +26,7 @@ impl Edges for Spaced {
     }
 
     fn get(&self, i: usize) -> i64 {
-        self.first as i64 + i as i64 * self.pitch as i64
+        i64::from(self.first) + i as i64 * i64::from(self.pitch)
     }
 }
 

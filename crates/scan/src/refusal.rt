@@ -1,6 +1,9 @@
 // Why a call is refused: a case to each condition, with what it knows.
 ghost use Rattle.std.specs.Prelude.{◌≡◌};
 ghost use Rattle.scan.specs.Refusals.{number, place};
+ghost use Rattle.scan.specs.declared.refusal.Refusal.TheVariants.{StepOutOfRange};
+
+use geometry::no_step::NoStep;
 
 // Which of the caller's stores.
 #[derive(Clone, Copy, PartialEq, Eq, Debug)]
@@ -98,6 +101,16 @@ impl Refusal {
             | Refusal::ColumnBeyond { edge, .. } => *edge,
             Refusal::PanelDistance { .. } => 1,
             _ => 0,
+        }
+    }
+}
+
+impl From<NoStep> for Refusal {
+    ghost from_gives = { λ e r. r ≡ StepOutOfRange e.number };
+
+    fn from(e: NoStep) -> Refusal {
+        Refusal::StepOutOfRange {
+            step: i64::from(e.number),
         }
     }
 }

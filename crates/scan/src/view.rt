@@ -1,10 +1,8 @@
 // One view of a plan.
 ghost use Rattle.std.specs.Prelude.{◌≡◌, ◌<◌, ◌≤◌, length, Some, None};
-ghost use Rattle.scan.specs.Axes.{edge_of};
-ghost use Rattle.scan.specs.Plans.{slab_edges, cross_edges, low_of, high_of, landing_of, landing};
+ghost use Rattle.scan.specs.Plans.{slab_edges, cross_edges, landing_of, landing};
 ghost use Rattle.scan.specs.Meanings.{plan_of};
 ghost use Rattle.scan.specs.Lands.{Lands};
-ghost use Rattle.geometry.proofs.Table.{steep};
 ghost use Rattle.scan.specs.Fits.{fitted};
 ghost use Rattle.scan.specs.Landings;
 
@@ -15,8 +13,7 @@ use crate::listed::ListedAxis;
 use crate::plan::Plan;
 use crate::scan_axis::ScanAxis;
 use geometry::direction::{Direction, SlabAxis};
-use geometry::edge::Edge;
-use geometry::landed;
+use geometry::landed::Pose;
 use geometry::turn::direction;
 
 // A plan, and the direction of one of its views.
@@ -24,32 +21,6 @@ use geometry::turn::direction;
 pub struct View<'a> {
     plan: &'a Plan,
     direction: Direction,
-}
-
-// The edges of a cell.
-#[derive(Clone, Copy)]
-struct Cell {
-    low: Edge,
-    high: Edge,
-}
-
-fn edge_at(axis: &ListedAxis, i: usize) -> Edge
-    ensures { result.at ≡ edge_of axis.now.edges.items i }
-{
-    Edge {
-        at: axis.edge(i) as i64,
-    }
-}
-
-fn cell_at(axis: &ListedAxis, j: usize) -> Cell
-    ensures low { result.low.at ≡ low_of axis.now.edges.items j }
-    ensures high { result.high.at ≡ high_of axis.now.edges.items j }
-{
-    let j = j.min(axis.cells() - 1);
-    Cell {
-        low: edge_at(axis, j),
-        high: edge_at(axis, j + 1),
-    }
 }
 
 impl Plan {
@@ -76,6 +47,16 @@ struct Plane<'a> {
 }
 
 impl View<'_> {
+    fn pose(&self) -> Pose
+        ensures distances { result.distances ≡ self.now.plan.now.layout.distances }
+        ensures direction { result.direction ≡ self.now.direction }
+    {
+        Pose {
+            distances: self.plan.layout.distances,
+            direction: self.direction,
+        }
+    }
+
     fn plane(&self) -> Plane<'_>
         ensures slabs { result.slabs.now.edges.items ≡ slab_edges (plan_of self.now.plan.now) self.now.direction.slabs }
         ensures crosses { result.crosses.now.edges.items ≡ cross_edges (plan_of self.now.plan.now) self.now.direction.slabs }
@@ -98,7 +79,7 @@ impl Landed for View<'_> {
     ghost landing = { λ w. landing_of (plan_of w.plan.now) w.direction.slabs w.direction.a w.direction.b };
 
     ghost sound = { λ w.
-        Landings.sound (plan_of w.plan.now) (fitted w.plan.now.layout) w.direction.slabs w.direction.a w.direction.b (steep w.direction) };
+        Landings.sound (plan_of w.plan.now) (fitted w.plan.now.layout) w.direction.slabs w.direction.a w.direction.b w.direction.steep };
 
     fn along(&self) -> SlabAxis {
         self.direction.slabs
@@ -126,37 +107,21 @@ impl Landed for View<'_> {
 
     fn cross_edge(&self, slab: usize, i: usize) -> i64 {
         let Plane { slabs, crosses } = self.plane();
-        let Cell { low, high } = cell_at(slabs, slab);
-        let edge = edge_at(crosses, i);
-        landed::cross_edge(self.plan.layout.distances, self.direction, low, high, edge)
+        self.pose()
+            .cross_edge(slabs.cell_at(slab), crosses.edge_at(i))
     }
 
     fn height_edge(&self, slab: usize, l: usize) -> i64 {
-        let layout = &self.plan.layout;
-        let Cell { low, high } = cell_at(self.plane().slabs, slab);
-        landed::height_edge(
-            layout.distances,
-            self.direction,
-            low,
-            high,
-            edge_at(&layout.z, l),
-        )
+        let slab = self.plane().slabs.cell_at(slab);
+        self.pose().height_edge(slab, self.plan.layout.z.edge_at(l))
     }
 
     fn column_edge(&self, k: usize) -> i64 {
-        let layout = &self.plan.layout;
-        landed::column_edge(layout.distances, self.direction, edge_at(&layout.column, k))
+        self.pose().column_edge(self.plan.layout.column.edge_at(k))
     }
 
     fn row_edge(&self, column: usize, m: usize) -> i64 {
-        let layout = &self.plan.layout;
-        let Cell { low, high } = cell_at(&layout.column, column);
-        landed::row_edge(
-            layout.distances,
-            self.direction,
-            low,
-            high,
-            edge_at(&layout.row, m),
-        )
+        let column = self.plan.layout.column.cell_at(column);
+        self.pose().row_edge(column, self.plan.layout.row.edge_at(m))
     }
 }
