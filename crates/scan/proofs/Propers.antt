@@ -1,12 +1,13 @@
 -- Edges that pass every check are those of an axis. Assumes nothing.
-use Rattle.std.specs.Prelude.{◌≡◌, ℕ, ◌+◌, ◌-◌, ◌<◌, ◌≤◌, Bool, false, List, length, ℤ, pos, ◌<ℤ◌, Some, None, Option, int_le, nat_lt, slice_index_or, unsigned_abs, refl}
-use Rattle.std.proofs.Common.{arith}
+use Rattle.std.specs.Prelude.{◌≡◌, ℕ, ◌+◌, ◌-◌, ◌<◌, ◌≤◌, min, Bool, false, List, length, ℤ, pos, ◌<ℤ◌, Some, None, Option, int_le, nat_lt, slice_index_or, unsigned_abs, refl}
+use Rattle.std.proofs.Common.{ap, arith, w32, SFits}
 use Rattle.std.proofs.lemmas.Int.{ints}
 use Rattle.std.proofs.lemmas.Bool.{ltb-false, or_parts}
 use Rattle.std.proofs.lemmas.List.FromFn.{length-map-range_with_len, get_or-map-range_with_len}
 use Rattle.std.specs.Option.{option_or, option_map}
-use Rattle.scan.specs.Axes.{Proper, Rises, Within, even_edge, even_edges}
+use Rattle.scan.specs.Axes.{Proper, Rises, Within, edge_of, even_edge, even_edges}
 use Rattle.scan.specs.Checks.{first_outside, first_not_rising, edges_check, count_check}
+use Rattle.scan.specs.Numbered.{edge_within}
 use Rattle.scan.proofs.Firsts.{or_none, if_none, first_none}
 
 pub mapped_none : {X Y : Type 0} (f : X → Y) (o : Option X) → option_map f o ≡ None → o ≡ None
@@ -44,6 +45,17 @@ count_within : (found least most : ℕ) → count_check found least most ≡ Non
 count_within found least most e =
     let p = or_parts _ _ (if_none _ _ e) in
     (ltb-false found least p.0, ltb-false most found p.1)
+
+-- an edge of an even axis, where a number past the last stands for the last
+pub even_edge_of : (first pitch : ℤ) (n i k : ℕ) → k ≡ min i n → edge_of (even_edges first pitch n) i ≡ even_edge first pitch k
+even_edge_of first pitch n i k e =
+    let long = even_length first pitch n in
+    let place : min i (length (even_edges first pitch n) - 1) ≡ k = omega arith in
+    rw place (even_edge_at first pitch n k (omega arith))
+
+-- an edge of an axis fits 32 bits
+pub edge_fits : (es : List ℤ) → Proper es → (i : ℕ) (z : ℤ) → z ≡ edge_of es i → SFits w32 z
+edge_fits es proper i z e = let size = ap unsigned_abs e in let small = edge_within es proper i in omega (arith, ints)
 
 -- the checks one after another
 pub after_none : {X : Type 0} (o p : Option X) {q : Option X} → o ≡ None → p ≡ q → option_or o p ≡ q
