@@ -1,22 +1,21 @@
 -- What a layout keeps follows from its checks. Assumes nothing.
-use Rattle.std.specs.Prelude.{◌≡◌, ℕ, ◌*◌, Bool, List, length, ℤ, None, nat_le, unsigned_abs}
-use Rattle.std.proofs.Common.{sym}
+use Rattle.std.specs.Prelude.{◌≡◌, ℕ, Bool, List, length, ℤ, None, nat_le, unsigned_abs}
+use Rattle.std.proofs.Common.{sym, arith}
 use Rattle.std.proofs.lemmas.Bool.{leb-false}
 use Rattle.scan.specs.Axes.{edge_of}
-use Rattle.scan.specs.Plans.{widest, reach_check, Near, Reaches}
-use Rattle.scan.proofs.Firsts.{or_none, if_none, first_none}
+use Rattle.scan.specs.Plans.{first_beyond, reach_check, Near, Reaches}
+use Rattle.scan.proofs.Firsts.{first_none}
 use Rattle.scan.specs.Numbered.{edge_at}
-use Rattle.scan.proofs.Propers.{mapped_none}
 
 -- of the lists that hold the edges that were checked
 module _ (source panel : ℤ) (x y column : List ℤ) (passed : reach_check source panel x y column ≡ None) where
   pub kept_near : {vx vy : List ℤ} → vx ≡ x → vy ≡ y → Near source vx vy
-  kept_near ex ey = rw (ex, ey) (leb-false (unsigned_abs source) (2 * widest x y) (if_none _ _ (or_none _ _ passed).0))
+  kept_near ex ey = rw (ex, ey) (grind arith)
 
   reaches : Reaches panel column
   reaches i l =
       let test : ℕ → Bool = λ k. nat_le (unsigned_abs panel) (unsigned_abs (edge_of column k)) in
-      let none = mapped_none _ _ (or_none _ _ passed).1 in
+      let none : first_beyond (unsigned_abs panel) column ≡ None = grind arith in
       rw (sym (edge_at column i l)) (leb-false (unsigned_abs panel) (unsigned_abs (edge_of column i)) (first_none test (length column) none i l))
 
   pub kept_reaches : {vc : List ℤ} → vc ≡ column → Reaches panel vc

@@ -2,7 +2,7 @@
 use Rattle.std.specs.Prelude.{◌≡◌, ℕ, zero, suc, ◌<◌, List, [], ◌∷◌, length, ℤ, vec_items, vec_len, Vec, slice_index, slice_index_or}
 use Rattle.std.proofs.Common.{sym, ap, ◌∙◌, arith}
 use Rattle.std.specs.declared.alloc.Global.{Global}
-use Rattle.std.proofs.lemmas.List.{length-map}
+use Rattle.std.proofs.lemmas.List.{length-map, get_or-map}
 use Rattle.std.proofs.lemmas.Int.{ints}
 use Rattle.geometry.specs.declared.direction.SlabAxis.{SlabAxis}
 use Rattle.geometry.specs.declared.step.Step.{Step}
@@ -21,9 +21,7 @@ step_below (step ∷ steps) (suc v) = step_below steps v
 
 -- the number of the view at v
 pub number_at : (steps : List Step) (v : ℕ) (step : Step) → v < length steps → step ≡ slice_index_or steps v step → step.number ≡ slice_index (numbers steps) v
-number_at [] v step l e = absurd (omega arith)
-number_at (first ∷ rest) zero step l e = ap (λ (s : Step). s.number) e
-number_at (first ∷ rest) (suc v) step l e = number_at rest v step (omega arith) e
+number_at steps v step l e = ap (λ (s : Step). s.number) e ∙ sym (get_or-map (λ (s : Step). s.number) steps v step 0 l)
 
 pub fitted : (layout : Layout) → Fitted (scan_of layout)
 fitted layout =

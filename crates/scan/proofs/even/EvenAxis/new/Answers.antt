@@ -1,7 +1,7 @@
-use Rattle.std.proofs.Common.{w32, to_z, of_z}
+use Rattle.std.proofs.Common.{arith, w32, to_z, of_z}
 use Rattle.std.proofs.lemmas.Result.{err_from_is_err_and}
 use Rattle.std.proofs.lemmas.Int.{to_z-of_z}
-use Rattle.scan.proofs.Propers.{even_proper, after_none}
+use Rattle.scan.proofs.Propers.{even_proper}
 use Rattle.scan.proofs.even.EvenAxis.new.Goals as goal
 
 pub returns-in_err-check_edges : goal.returns-in_err-check_edges
@@ -9,7 +9,8 @@ returns-in_err-check_edges c =
     let p = err_from_is_err_and c.from_residual-in_err-check_edges.result c.from_residual-in_err-check_edges.ensures.1 in
     let first = c.ranges.first in
     let pitch = c.ranges.pitch in
-    rw (p.1, p.2) (after_none _ _ c.in_ok-check_count.ensures.0 (simp to_z-of_z at c.in_err-check_edges.ensures))
+    let found = simp to_z-of_z at c.in_err-check_edges.ensures in
+    rw (p.1, p.2) (grind arith)
 
 pub invariant_of-result : goal.invariant_of-result
 invariant_of-result c =
