@@ -1,3 +1,4 @@
+ghost use Rattle.std.specs.Prelude.{refl};
 ghost use Rattle.values.specs.Pairs.{pair_ops};
 ghost use Rattle.values.specs.PairLaws.{pair_laws};
 
@@ -17,13 +18,13 @@ impl Value for Pair {
         second: Count { bits: 0 },
     };
 
+    ghost ZERO = { pair_ops.zero };
+
     ghost ops = { pair_ops };
 
-    ghost lawful = { pair_laws };
+    ghost zero_named = { refl };
 
-    fn neutral() -> Pair {
-        Pair::ZERO
-    }
+    ghost lawful = { pair_laws };
 
     fn plus(self, other: Pair) -> Pair {
         Pair {
