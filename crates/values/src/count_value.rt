@@ -44,18 +44,21 @@ impl Value for Count {
 
     ghost lawful = { count_laws };
 
+    #[tactic(auto, using(crate::specs::CountLaws::same))]
     fn plus(self, other: Count) -> Count {
         Count {
             bits: self.bits.wrapping_add(other.bits),
         }
     }
 
+    #[tactic(auto, using(crate::specs::CountLaws::same))]
     fn times(self, other: Count) -> Count {
         Count {
             bits: self.bits.wrapping_mul(other.bits),
         }
     }
 
+    #[tactic(auto, using(crate::specs::CountLaws::same))]
     fn multiple(self, n: u64) -> Count {
         Count {
             bits: self.bits.wrapping_mul(n),

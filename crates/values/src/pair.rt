@@ -13,6 +13,7 @@ pub struct Pair {
 }
 
 impl Value for Pair {
+    // Written out: the value of a constant cannot name a constant of a trait yet.
     const ZERO: Pair = Pair {
         first: Count { bits: 0 },
         second: Count { bits: 0 },
