@@ -1,7 +1,7 @@
 // Where the edges of voxels and of detector cells land on the common plane, which holds the rotation axis and lies
 // across the slab axis. Each landed edge is one division that rounds down.
 // No admitted plan makes a divisor 0; an edge whose divisor is 0 lands at 0.
-ghost use Rattle.std.specs.Prelude.{◌≡◌, ◌^◌, ◌≤◌, ◌+ℤ◌, unsigned_abs};
+ghost use Rattle.std.specs.Prelude.{◌≡◌, ◌^◌, ◌≤◌, pos, ◌+ℤ◌, ◌*ℤ◌, unsigned_abs};
 ghost use Rattle.geometry.specs.Landed.{slab_sum, depth, slant, cross_edge, height_edge, column_edge, row_edge};
 
 use crate::cell::Cell;
@@ -39,39 +39,63 @@ impl Pose {
         2 * self.distances.source * self.direction.a - R * sum
     }
 
+    // The dividend of U.
+    fn cross_dividend(self, sum: i64, e: Edge) -> i64
+        requires { unsigned_abs sum ≤ 8388608 }
+        ensures value { result ≡ self.distances.source *ℤ (pos 2 *ℤ e.at *ℤ self.direction.a +ℤ sum *ℤ self.direction.b) }
+        ensures within { unsigned_abs result ≤ 2 ^ 62 }
+    {
+        self.distances.source * (2 * e.at * self.direction.a + sum * self.direction.b)
+    }
+
+    // The dividend of W and T.
+    fn height_dividend(self, z: Edge) -> i64
+        ensures value { result ≡ pos 2 *ℤ self.distances.source *ℤ self.direction.a *ℤ z.at }
+        ensures within { unsigned_abs result ≤ 2 ^ 61 }
+    {
+        2 * self.distances.source * self.direction.a * z.at
+    }
+
     // Where the edge e of a voxel, across the slab axis, lands from a slab.
     pub fn cross_edge(self, slab: Cell, e: Edge) -> i64
         ensures { result ≡ cross_edge self.distances.source self.direction.a self.direction.b (slab_sum self.direction.slabs slab.low.at slab.high.at) e.at }
     {
         let sum = self.slab_sum(slab);
-        let Direction { a, b, .. } = self.direction;
-        let cross = self.distances.source * (2 * e.at * a + sum * b);
-        floor_div(cross, self.depth(sum))
+        floor_div(self.cross_dividend(sum, e), self.depth(sum))
     }
 
     // Where the edge z of a voxel, along the rotation axis, lands from a slab.
     pub fn height_edge(self, slab: Cell, z: Edge) -> i64
         ensures { result ≡ height_edge self.distances.source self.direction.a (slab_sum self.direction.slabs slab.low.at slab.high.at) z.at }
     {
-        let height = 2 * self.distances.source * self.direction.a * z.at;
-        floor_div(height, self.depth(self.slab_sum(slab)))
+        floor_div(self.height_dividend(z), self.depth(self.slab_sum(slab)))
     }
 
     // Where the edge k of a detector column lands.
     pub fn column_edge(self, k: Edge) -> i64
         ensures { result ≡ column_edge self.distances.source self.distances.panel self.direction.a self.direction.b k.at }
     {
-        let column = self.distances.source * R * k.at;
-        floor_div(column, self.direction.slant(self.distances.panel, k.at))
+        let slant = self.direction.slant(self.distances.panel, k.at);
+        floor_div(self.distances.column_dividend(k), slant)
     }
 
     // Where the edge g of a detector row lands, from the middle of a column.
     pub fn row_edge(self, column: Cell, g: Edge) -> i64
         ensures { result ≡ row_edge self.distances.source self.distances.panel self.direction.a self.direction.b (column.low.at +ℤ column.high.at) g.at }
     {
-        let row = 2 * self.distances.source * self.direction.a * g.at;
         let sum = column.low.at + column.high.at;
-        floor_div(row, self.direction.slant(2 * self.distances.panel, sum))
+        let slant = self.direction.slant(2 * self.distances.panel, sum);
+        floor_div(self.height_dividend(g), slant)
+    }
+}
+
+impl Distances {
+    // The dividend of S.
+    fn column_dividend(self, k: Edge) -> i64
+        ensures value { result ≡ self.source *ℤ pos 16384 *ℤ k.at }
+        ensures within { unsigned_abs result ≤ 2 ^ 60 }
+    {
+        self.source * R * k.at
     }
 }
 

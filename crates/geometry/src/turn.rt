@@ -11,6 +11,7 @@ const SINES: [i64; 17] = [
     16305, 16384,
 ];
 
+#[tactic(auto, unfolding(crate::specs::Turn::sine))]
 fn sine_of(r: usize) -> i64
     requires { r < 17 }
     ensures value { result ≡ sine r }
