@@ -1,11 +1,5 @@
--- What the lemmas on landed edges ask of distances, slabs, panel edges and directions.
+-- What the lemmas on landed edges ask of distances, slabs and panel edges.
 use Rattle.std.proofs.Common.{◌^◌, ◌<◌, ◌≤◌, ℤ, pos, nat_abs, ◌<ℤ◌}
-
--- what every direction keeps: a lies between 11585 and 16384 in size, and b is no greater than a
-pub record Steep (a b : ℤ) : Type 0 where
-  pub least : 11585 ≤ nat_abs a
-  pub most : nat_abs a ≤ 16384
-  pub side : nat_abs b ≤ nat_abs a
 
 -- a slab whose edges' sum is Q lies nearer the rotation axis than half the distance D
 pub record Placed (D Q : ℤ) : Type 0 where

@@ -1,9 +1,11 @@
 -- The divisors of the landed edges are not 0, and lie on a's side of it. Assumes nothing.
 use Rattle.std.proofs.Common.{◌<◌, ℤ, pos, ◌-ℤ◌, ◌*ℤ◌, nat_abs, mul-le-mul_left, mul-lt-mul_of_pos_right, arith}
+use Rattle.std.proofs.lemmas.Int.{unsigned_abs-mul}
 use borrow.Author.Differences.{ints}
 use Rattle.geometry.specs.Landed.{depth, slant}
-use Rattle.geometry.proofs.Size.{abs_times, abs_times_3, SameSide, lead_side, times_side, side_trans}
-use Rattle.geometry.proofs.Conditions.{Steep, Placed, Reached, Beside}
+use Rattle.geometry.proofs.Size.{abs_times_3, SameSide, lead_side, times_side, side_trans}
+use Rattle.geometry.specs.Steep.{Steep}
+use Rattle.geometry.proofs.Conditions.{Placed, Reached, Beside}
 
 -- where x lies beside a and y is less, x - y does
 beside_minus : (a x y : ℤ) → SameSide a x → nat_abs y < nat_abs x → Beside a (x -ℤ y)
@@ -16,11 +18,11 @@ unfolding depth
 depth_beside D a b Q p s =
     beside_minus a (pos 2 *ℤ D *ℤ a) (pos 16384 *ℤ Q)
     (times_side (pos 2 *ℤ D) a (omega (arith, ints)))
-    (omega (arith, abs_times_3 (pos 2) D a, abs_times (pos 16384) Q, mul-le-mul_left (nat_abs D) s.least))
+    (omega (arith, abs_times_3 (pos 2) D a, unsigned_abs-mul (pos 16384) Q, mul-le-mul_left (nat_abs D) s.least))
 
 pub slant_beside : (F a b k : ℤ) → Reached F k → Steep a b → Beside a (slant F a b k)
 unfolding slant
 slant_beside F a b k p s =
     let some : 0 < nat_abs a = omega (arith, s.least) in
     beside_minus a (F *ℤ a) (k *ℤ b) (times_side F a p.some)
-    (omega (arith, abs_times F a, abs_times k b, mul-le-mul_left (nat_abs k) s.side, mul-lt-mul_of_pos_right p.near some))
+    (omega (arith, unsigned_abs-mul F a, unsigned_abs-mul k b, mul-le-mul_left (nat_abs k) s.side, mul-lt-mul_of_pos_right p.near some))

@@ -9,7 +9,8 @@ use Rattle.geometry.proofs.FloorLaws.{floor_rises, floor_falls, floor_cross, flo
 use Rattle.geometry.proofs.Products.{*ℤ-assoc, *ℤ--ℤ, times_up, times_down, times_left}
 use Rattle.geometry.proofs.Size.{times_side}
 use Rattle.geometry.proofs.Divisors.{depth_beside, slant_beside}
-use Rattle.geometry.proofs.Conditions.{Steep, Placed, Reached, Beside}
+use Rattle.geometry.specs.Steep.{Steep}
+use Rattle.geometry.proofs.Conditions.{Placed, Reached, Beside}
 
 -- m comes before n where a is above 0, and after it where a is below
 abbrev Along : ℤ → ℤ → ℤ → Type 0
@@ -55,26 +56,27 @@ module _ (D F a b k l : ℤ) (some : pos 0 <ℤ D) (p : Reached F k) (q : Reache
   unfolding slant
   opened x y = *ℤ-assoc (D *ℤ pos 16384) x (F *ℤ a -ℤ y *ℤ b) ∙ ap (λ z. (D *ℤ pos 16384) *ℤ z) (*ℤ--ℤ x (F *ℤ a) (y *ℤ b))
 
-  swapped : k *ℤ (l *ℤ b) ≡ l *ℤ (k *ℤ b)
-  swapped = sym (*ℤ-assoc k l b) ∙ ap (λ z. z *ℤ b) (*ℤ_comm k l) ∙ *ℤ-assoc l k b
+  swapped : (x y : ℤ) → x *ℤ (y *ℤ b) ≡ y *ℤ (x *ℤ b)
+  swapped x y = sym (*ℤ-assoc x y b) ∙ ap (λ z. z *ℤ b) (*ℤ_comm x y) ∙ *ℤ-assoc y x b
 
   scale : pos 0 <ℤ (D *ℤ pos 16384)
   scale = omega (arith, ints)
 
+  -- the quotients of x and y, told by products
+  crossed : (x y : ℤ) → (x *ℤ (F *ℤ a)) ≤ℤ (y *ℤ (F *ℤ a)) → ((D *ℤ pos 16384 *ℤ x) *ℤ slant F a b y) ≤ℤ ((D *ℤ pos 16384 *ℤ y) *ℤ slant F a b x)
+  crossed x y w =
+      let m : (x *ℤ (F *ℤ a) -ℤ x *ℤ (y *ℤ b)) ≤ℤ (y *ℤ (F *ℤ a) -ℤ y *ℤ (x *ℤ b)) = omega (arith, ints, swapped x y) in
+      let n = times_left (D *ℤ pos 16384) _ _ scale m in
+      omega (arith, ints, opened x y, opened y x)
+
   pub column_rises : pos 0 <ℤ a → column_edge D F a b k ≤ℤ column_edge D F a b l
   unfolding column_edge
   column_rises u =
-      let w = times_up (F *ℤ a) k l ((times_side F a p.some).0 u) h in
-      let m : (k *ℤ (F *ℤ a) -ℤ k *ℤ (l *ℤ b)) ≤ℤ (l *ℤ (F *ℤ a) -ℤ l *ℤ (k *ℤ b)) = omega (arith, ints, swapped) in
-      let n = times_left (D *ℤ pos 16384) _ _ scale m in
       floor_cross _ _ _ _ ((slant_beside F a b k p s).above u) ((slant_beside F a b l q s).above u)
-      (omega (arith, ints, opened k l, opened l k))
+      (crossed k l (times_up (F *ℤ a) k l ((times_side F a p.some).0 u) h))
 
   pub column_falls : a <ℤ pos 0 → column_edge D F a b l ≤ℤ column_edge D F a b k
   unfolding column_edge
   column_falls u =
-      let w = times_down (F *ℤ a) k l ((times_side F a p.some).1 u) h in
-      let m : (l *ℤ (F *ℤ a) -ℤ l *ℤ (k *ℤ b)) ≤ℤ (k *ℤ (F *ℤ a) -ℤ k *ℤ (l *ℤ b)) = omega (arith, ints, swapped) in
-      let n = times_left (D *ℤ pos 16384) _ _ scale m in
       floor_cross_below _ _ _ _ ((slant_beside F a b l q s).below u) ((slant_beside F a b k p s).below u)
-      (omega (arith, ints, opened k l, opened l k))
+      (crossed l k (times_down (F *ℤ a) k l ((times_side F a p.some).1 u) h))

@@ -1,17 +1,9 @@
 -- The size and the side of sums and products of signed numbers. Assumes nothing.
 use Rattle.std.proofs.Common.{◌≡◌, ℕ, zero, suc, ◌+◌, ◌*◌, ◌^◌, ◌<◌, ◌≤◌, ℤ, pos, negsuc, ◌+ℤ◌, ◌-ℤ◌, ◌*ℤ◌, neg_ℤ, nat_abs, ◌<ℤ◌, refl, ap, ◌∙◌, mul-le-mul, arith, w64, SFits}
+use Rattle.std.proofs.lemmas.Int.{unsigned_abs-mul}
 use borrow.Author.Differences.{ints}
 
--- of the size of a product, a sum and a difference
-pub abs_neg : (x : ℤ) → nat_abs (neg_ℤ x) ≡ nat_abs x
-abs_neg x = omega (arith, ints)
-
-pub abs_times : (x y : ℤ) → nat_abs (x *ℤ y) ≡ nat_abs x * nat_abs y
-abs_times (pos a) (pos b) = refl
-abs_times (pos a) (negsuc b) = abs_neg (pos (a * suc b))
-abs_times (negsuc a) (pos b) = abs_neg (pos (suc a * b))
-abs_times (negsuc a) (negsuc b) = refl
-
+-- of the size of a sum and of a difference
 pub abs_plus : (x y : ℤ) → nat_abs (x +ℤ y) ≤ nat_abs x + nat_abs y
 abs_plus x y = omega (arith, ints)
 
@@ -20,7 +12,7 @@ abs_minus x y = omega (arith, ints)
 
 -- bounds: the shape that a caller uses
 pub times_within : (x y : ℤ) (A B : ℕ) → nat_abs x ≤ A → nat_abs y ≤ B → nat_abs (x *ℤ y) ≤ A * B
-times_within x y A B h k = omega (arith, abs_times x y, mul-le-mul h k)
+times_within x y A B h k = omega (arith, unsigned_abs-mul x y, mul-le-mul h k)
 
 pub plus_within : (x y : ℤ) (A B : ℕ) → nat_abs x ≤ A → nat_abs y ≤ B → nat_abs (x +ℤ y) ≤ A + B
 plus_within x y A B h k = omega (arith, abs_plus x y)
@@ -51,4 +43,4 @@ pub side_trans : (a x y : ℤ) → SameSide a x → SameSide x y → SameSide a 
 side_trans a x y h k = (λ p. k.0 (h.0 p), λ p. k.1 (h.1 p))
 
 pub abs_times_3 : (x y z : ℤ) → nat_abs (x *ℤ y *ℤ z) ≡ nat_abs x * nat_abs y * nat_abs z
-abs_times_3 x y z = abs_times (x *ℤ y) z ∙ ap (λ n. n * nat_abs z) (abs_times x y)
+abs_times_3 x y z = unsigned_abs-mul (x *ℤ y) z ∙ ap (λ n. n * nat_abs z) (unsigned_abs-mul x y)

@@ -1,12 +1,11 @@
 -- The rules of the turn table, each by one computed test over its steps. Assumes nothing.
-use Rattle.std.proofs.Common.{◌≡◌, ℕ, zero, suc, ◌^◌, ◌<◌, ◌≤◌, Bool, true, cond, ◌&&◌, leb, ℤ, pos, ◌+ℤ◌, ◌-ℤ◌, ◌*ℤ◌, neg_ℤ, nat_abs, sym, refl, ap, ◌∙◌, subst}
+use Rattle.std.proofs.Common.{◌≡◌, ℕ, zero, suc, ◌^◌, ◌<◌, ◌≤◌, Bool, true, if◌then◌else◌, ◌&&◌, nat_le, ℤ, pos, ◌+ℤ◌, ◌-ℤ◌, ◌*ℤ◌, neg_ℤ, nat_abs, sym, refl, ap, ◌∙◌, subst}
 use Rattle.std.proofs.lemmas.Bool.{leb-true, le-leb, lt-leb, and_parts}
 use Rattle.std.proofs.lemmas.Bool.Decides.{Decides-below_and}
 use Rattle.geometry.specs.declared.direction.SlabAxis.{SlabAxis}
 use Rattle.geometry.specs.declared.direction.SlabAxis.TheVariants.{X, Y}
-use Rattle.geometry.specs.declared.direction.Direction.{Direction}
 use Rattle.geometry.specs.Turn.{sine, sin_of, cos_of, Round, slabs_by, main_part, side_part, slab_axis, main_of, side_of}
-use Rattle.geometry.proofs.Conditions.{Steep}
+use Rattle.geometry.specs.Steep.{Steep}
 
 -- the test passes at each number below n
 abbrev all_below : (ℕ → Bool) → ℕ → Bool
@@ -17,31 +16,28 @@ from_all : (p : ℕ → Bool) (n : ℕ) → all_below p n ≡ true → (k : ℕ)
 from_all p n e = (Decides-below_and p (λ k. p k ≡ true) (all_below p) (λ k. (λ h. h, λ h. h)) refl (λ _. refl) n).0 e
 
 abbrev small_at : ℕ → Bool
-small_at r = leb (nat_abs (sine r)) 16384
+small_at r = nat_le (nat_abs (sine r)) 16384
 
 pub sine_within : (r : ℕ) → r < 17 → nat_abs (sine r) ≤ 16384
 unfolding sine
 sine_within r h = leb-true _ 16384 (from_all small_at 17 refl r h)
 
 abbrev round_at : ℕ → Bool
-round_at q = leb (nat_abs (cos_of q *ℤ cos_of q +ℤ sin_of q *ℤ sin_of q -ℤ pos (2 ^ 28))) 17126
+round_at q = nat_le (nat_abs (cos_of q *ℤ cos_of q +ℤ sin_of q *ℤ sin_of q -ℤ pos (2 ^ 28))) 17126
 
 pub all_round : (q : ℕ) → q < 64 → Round (sin_of q) (cos_of q)
 unfolding sine
 all_round q h = leb-true _ 17126 (from_all round_at 64 refl q h)
 
 abbrev steep_at : ℕ → Bool
-steep_at q = leb 11585 (nat_abs (main_of q)) && (leb (nat_abs (main_of q)) 16384 && leb (nat_abs (side_of q)) (nat_abs (main_of q)))
+steep_at q = nat_le 11585 (nat_abs (main_of q)) && (nat_le (nat_abs (main_of q)) 16384 && nat_le (nat_abs (side_of q)) (nat_abs (main_of q)))
 
 pub all_steep : (q : ℕ) → q < 64 → Steep (main_of q) (side_of q)
 unfolding sine main_of side_of
 all_steep q h =
-    let t = and_parts (leb 11585 (nat_abs (main_of q))) (leb (nat_abs (main_of q)) 16384 && leb (nat_abs (side_of q)) (nat_abs (main_of q))) (from_all steep_at 64 refl q h) in
-    let u = and_parts (leb (nat_abs (main_of q)) 16384) (leb (nat_abs (side_of q)) (nat_abs (main_of q))) t.1 in
+    let t = and_parts (nat_le 11585 (nat_abs (main_of q))) (nat_le (nat_abs (main_of q)) 16384 && nat_le (nat_abs (side_of q)) (nat_abs (main_of q))) (from_all steep_at 64 refl q h) in
+    let u = and_parts (nat_le (nat_abs (main_of q)) 16384) (nat_le (nat_abs (side_of q)) (nat_abs (main_of q))) t.1 in
     record { least = leb-true 11585 _ t.0; most = leb-true _ 16384 u.0; side = leb-true _ _ u.1 }
-
-pub steep : (d : Direction) → Steep d.a d.b
-steep d = record { least = d.least; most = d.most; side = d.side }
 
 -- a sine and a cosine that are the step's lie near the circle
 pub round_at_each : (q : ℕ) (s c : ℤ) → q < 64 → s ≡ sin_of q → c ≡ cos_of q → Round s c
@@ -68,7 +64,7 @@ module _ (q : ℕ) (s c : ℤ) (e : s ≡ sin_of q) (f : c ≡ cos_of q) where
       }
 
   pub points_y : nat_abs s ≤ nat_abs c → Points q Y c s
-  points_y h = points Y (ap (λ b. cond b Y X) (le-leb (nat_abs s) (nat_abs c) h))
+  points_y h = points Y (ap (λ b. if b then Y else X) (le-leb (nat_abs s) (nat_abs c) h))
 
   pub points_x : nat_abs c < nat_abs s → Points q X s (neg_ℤ c)
-  points_x h = points X (ap (λ b. cond b Y X) (lt-leb (nat_abs s) (nat_abs c) h))
+  points_x h = points X (ap (λ b. if b then Y else X) (lt-leb (nat_abs s) (nat_abs c) h))

@@ -1,5 +1,5 @@
 -- The sine and the cosine of a step, in 16384ths, and the direction that they give. A step is 5.625 degrees.
-use Rattle.std.specs.Prelude.{ℕ, zero, suc, ◌-◌, ◌/◌, ◌%◌, ◌^◌, ◌≤◌, cond, List, [], ◌∷◌, ℤ, pos, ◌+ℤ◌, ◌-ℤ◌, ◌*ℤ◌, neg_ℤ, nat_le, slice_index_or, unsigned_abs}
+use Rattle.std.specs.Prelude.{ℕ, zero, suc, ◌-◌, ◌/◌, ◌%◌, ◌^◌, ◌≤◌, if◌then◌else◌, List, [], ◌∷◌, ℤ, pos, ◌+ℤ◌, ◌-ℤ◌, ◌*ℤ◌, neg_ℤ, nat_le, slice_index_or, unsigned_abs}
 use Rattle.geometry.specs.declared.direction.SlabAxis.{SlabAxis}
 use Rattle.geometry.specs.declared.direction.SlabAxis.TheVariants.{X, Y}
 
@@ -34,7 +34,7 @@ Round s c = unsigned_abs (c *ℤ c +ℤ s *ℤ s -ℤ pos (2 ^ 28)) ≤ 17126
 
 -- the slabs are the cells of the axis along which the central ray runs more, and of y at a tie
 abbrev pub slabs_by : ℤ → ℤ → SlabAxis
-slabs_by s c = cond (nat_le (unsigned_abs s) (unsigned_abs c)) Y X
+slabs_by s c = if nat_le (unsigned_abs s) (unsigned_abs c) then Y else X
 
 -- a: the cosine where the slabs are the cells of y, and the sine where they are the cells of x
 abbrev pub main_part : SlabAxis → ℤ → ℤ → ℤ

@@ -1,8 +1,8 @@
 // The direction of a view.
-ghost use Rattle.std.specs.Prelude.{◌≤◌, unsigned_abs};
+ghost use Rattle.geometry.specs.Steep.{Steep};
 
 // The axis whose cells are the slabs: the one along which the central ray runs more, and y at a tie.
-#[derive(Clone, Copy)]
+#[derive(Clone, Copy, PartialEq, Eq, Debug)]
 pub enum SlabAxis {
     X,
     Y,
@@ -12,19 +12,17 @@ pub enum SlabAxis {
 pub(crate) const R: i64 = 16_384;
 
 // The sine and the cosine of a step, in 16384ths.
-#[derive(Clone, Copy)]
+#[derive(Clone, Copy, PartialEq, Eq, Debug)]
 pub struct Heading {
     pub s: i64,
     pub c: i64,
 }
 
 // (a, b) is (c, s) where the slabs are the cells of y and (s, -c) where they are the cells of x; |b| <= |a|.
-#[derive(Clone, Copy)]
+#[derive(Clone, Copy, PartialEq, Eq, Debug)]
 pub struct Direction {
     pub slabs: SlabAxis,
     pub a: i64,
     pub b: i64,
-    ghost least: { 11585 ≤ unsigned_abs a },
-    ghost most: { unsigned_abs a ≤ 16384 },
-    ghost side: { unsigned_abs b ≤ unsigned_abs a },
+    ghost steep: { Steep a b },
 }

@@ -2,7 +2,7 @@
 ghost use Rattle.std.specs.Prelude.{◌≤◌, unsigned_abs};
 
 // Where an edge of an axis lies, in the unit that the user picks.
-#[derive(Clone, Copy)]
+#[derive(Clone, Copy, PartialEq, Eq, Debug)]
 pub struct Edge {
     pub at: i64,
     ghost within: { unsigned_abs at ≤ 4194304 },

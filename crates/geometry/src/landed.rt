@@ -1,77 +1,115 @@
 // Where the edges of voxels and of detector cells land on the common plane, which holds the rotation axis and lies
 // across the slab axis. Each landed edge is one division that rounds down.
 // No admitted plan makes a divisor 0; an edge whose divisor is 0 lands at 0.
-ghost use Rattle.std.specs.Prelude.{◌≡◌, ◌^◌, ◌≤◌, ◌+ℤ◌, unsigned_abs};
+ghost use Rattle.std.specs.Prelude.{◌≡◌, ◌^◌, ◌≤◌, pos, ◌+ℤ◌, ◌*ℤ◌, unsigned_abs};
 ghost use Rattle.geometry.specs.Landed.{slab_sum, depth, slant, cross_edge, height_edge, column_edge, row_edge};
 
+use crate::cell::Cell;
 use crate::direction::{Direction, R, SlabAxis};
 use crate::distances::Distances;
 use crate::edge::Edge;
 use crate::floor::floor_div;
 
-// Q: the sum of the slab's edges, negated for cells of x.
-fn slab_sum(slabs: SlabAxis, low: Edge, high: Edge) -> i64
-    ensures value { result ≡ slab_sum slabs low.at high.at }
-    ensures within { unsigned_abs result ≤ 8388608 }
-{
-    match slabs {
-        SlabAxis::X => -(low.at + high.at),
-        SlabAxis::Y => low.at + high.at,
+// How the source and the panel stand in one view: how far away, and which way.
+#[derive(Clone, Copy, PartialEq, Eq, Debug)]
+pub struct Pose {
+    pub distances: Distances,
+    pub direction: Direction,
+}
+
+impl Pose {
+    // Q: the sum of the slab's edges, negated for cells of x.
+    fn slab_sum(self, slab: Cell) -> i64
+        ensures value { result ≡ slab_sum self.direction.slabs slab.low.at slab.high.at }
+        ensures within { unsigned_abs result ≤ 8388608 }
+    {
+        match self.direction.slabs {
+            SlabAxis::X => -(slab.low.at + slab.high.at),
+            SlabAxis::Y => slab.low.at + slab.high.at,
+        }
+    }
+
+    // The divisor of U and W: 2R times the signed distance along the slab axis between the source and the middle of the
+    // slab, whose edges' sum is given.
+    fn depth(self, sum: i64) -> i64
+        requires { unsigned_abs sum ≤ 8388608 }
+        ensures value { result ≡ depth self.distances.source self.direction.a sum }
+        ensures within { unsigned_abs result ≤ 2 ^ 40 }
+    {
+        2 * self.distances.source * self.direction.a - R * sum
+    }
+
+    // The dividend of U.
+    fn cross_dividend(self, sum: i64, e: Edge) -> i64
+        requires { unsigned_abs sum ≤ 8388608 }
+        ensures value { result ≡ self.distances.source *ℤ (pos 2 *ℤ e.at *ℤ self.direction.a +ℤ sum *ℤ self.direction.b) }
+        ensures within { unsigned_abs result ≤ 2 ^ 62 }
+    {
+        self.distances.source * (2 * e.at * self.direction.a + sum * self.direction.b)
+    }
+
+    // The dividend of W and T.
+    fn height_dividend(self, z: Edge) -> i64
+        ensures value { result ≡ pos 2 *ℤ self.distances.source *ℤ self.direction.a *ℤ z.at }
+        ensures within { unsigned_abs result ≤ 2 ^ 61 }
+    {
+        2 * self.distances.source * self.direction.a * z.at
+    }
+
+    // Where the edge e of a voxel, across the slab axis, lands from a slab.
+    pub fn cross_edge(self, slab: Cell, e: Edge) -> i64
+        ensures { result ≡ cross_edge self.distances.source self.direction.a self.direction.b (slab_sum self.direction.slabs slab.low.at slab.high.at) e.at }
+    {
+        let sum = self.slab_sum(slab);
+        floor_div(self.cross_dividend(sum, e), self.depth(sum))
+    }
+
+    // Where the edge z of a voxel, along the rotation axis, lands from a slab.
+    pub fn height_edge(self, slab: Cell, z: Edge) -> i64
+        ensures { result ≡ height_edge self.distances.source self.direction.a (slab_sum self.direction.slabs slab.low.at slab.high.at) z.at }
+    {
+        floor_div(self.height_dividend(z), self.depth(self.slab_sum(slab)))
+    }
+
+    // Where the edge k of a detector column lands.
+    pub fn column_edge(self, k: Edge) -> i64
+        ensures { result ≡ column_edge self.distances.source self.distances.panel self.direction.a self.direction.b k.at }
+    {
+        let slant = self.direction.slant(self.distances.panel, k.at);
+        floor_div(self.distances.column_dividend(k), slant)
+    }
+
+    // Where the edge g of a detector row lands, from the middle of a column.
+    pub fn row_edge(self, column: Cell, g: Edge) -> i64
+        ensures { result ≡ row_edge self.distances.source self.distances.panel self.direction.a self.direction.b (column.low.at +ℤ column.high.at) g.at }
+    {
+        let sum = column.low.at + column.high.at;
+        let slant = self.direction.slant(2 * self.distances.panel, sum);
+        floor_div(self.height_dividend(g), slant)
     }
 }
 
-// The divisor of U and W: 2R times the signed distance along the slab axis between the source and the slab's middle.
-fn depth_of(reach: Distances, toward: Direction, slab: i64) -> i64
-    requires { unsigned_abs slab ≤ 8388608 }
-    ensures value { result ≡ depth reach.source toward.a slab }
-    ensures within { unsigned_abs result ≤ 2 ^ 40 }
-{
-    2 * reach.source * toward.a - R * slab
+impl Distances {
+    // The dividend of S.
+    fn column_dividend(self, k: Edge) -> i64
+        ensures value { result ≡ self.source *ℤ pos 16384 *ℤ k.at }
+        ensures within { unsigned_abs result ≤ 2 ^ 60 }
+    {
+        self.source * R * k.at
+    }
 }
 
-// The divisor of S: R times the signed distance along the slab axis between the source and the point k of the panel.
-// That of T is 2R times the distance at the column's middle, as both the panel's distance and k are then doubled.
-fn slant_of(panel: i64, toward: Direction, k: i64) -> i64
-    requires panel { unsigned_abs panel ≤ 2 ^ 26 }
-    requires edge { unsigned_abs k ≤ 8388608 }
-    ensures value { result ≡ slant panel toward.a toward.b k }
-    ensures within { unsigned_abs result ≤ 2 ^ 41 }
-{
-    panel * toward.a - k * toward.b
-}
-
-// Where the edge e of a voxel, across the slab axis, lands from the slab between two edges.
-pub fn cross_edge(reach: Distances, toward: Direction, low: Edge, high: Edge, e: Edge) -> i64
-    ensures { result ≡ cross_edge reach.source toward.a toward.b (slab_sum toward.slabs low.at high.at) e.at }
-{
-    let slab = slab_sum(toward.slabs, low, high);
-    let cross = reach.source * (2 * e.at * toward.a + slab * toward.b);
-    floor_div(cross, depth_of(reach, toward, slab))
-}
-
-// Where the edge z of a voxel, along the rotation axis, lands from the slab between two edges.
-pub fn height_edge(reach: Distances, toward: Direction, low: Edge, high: Edge, z: Edge) -> i64
-    ensures { result ≡ height_edge reach.source toward.a (slab_sum toward.slabs low.at high.at) z.at }
-{
-    let slab = slab_sum(toward.slabs, low, high);
-    let height = 2 * reach.source * toward.a * z.at;
-    floor_div(height, depth_of(reach, toward, slab))
-}
-
-// Where the edge k of a detector column lands.
-pub fn column_edge(reach: Distances, toward: Direction, k: Edge) -> i64
-    ensures { result ≡ column_edge reach.source reach.panel toward.a toward.b k.at }
-{
-    let column = reach.source * R * k.at;
-    floor_div(column, slant_of(reach.panel, toward, k.at))
-}
-
-// Where the edge g of a detector row lands, from the middle of the column between two edges.
-pub fn row_edge(reach: Distances, toward: Direction, left: Edge, right: Edge, g: Edge) -> i64
-    ensures { result ≡ row_edge reach.source reach.panel toward.a toward.b (left.at +ℤ right.at) g.at }
-{
-    let row = 2 * reach.source * toward.a * g.at;
-    floor_div(row, slant_of(2 * reach.panel, toward, left.at + right.at))
+impl Direction {
+    // The divisor of S: R times the signed distance along the slab axis between the source and the point k of the panel.
+    // That of T is 2R times the distance at the column's middle, as both the panel's distance and k are then doubled.
+    fn slant(self, panel: i64, k: i64) -> i64
+        requires panel { unsigned_abs panel ≤ 2 ^ 26 }
+        requires edge { unsigned_abs k ≤ 8388608 }
+        ensures value { result ≡ slant panel self.a self.b k }
+        ensures within { unsigned_abs result ≤ 2 ^ 41 }
+    {
+        panel * self.a - k * self.b
+    }
 }
 
 #[cfg(test)]
@@ -80,59 +118,51 @@ mod tests {
     use crate::step::Step;
     use crate::turn::direction;
 
+    // A view with the source at 1000 and the panel at 2000.
+    fn pose(step: Step) -> Pose {
+        Pose {
+            distances: Distances {
+                source: 1000,
+                panel: 2000,
+            },
+            direction: direction(step),
+        }
+    }
+
+    // Where the edges at -100, 0 and 100 across, and at -50 and 50 up, land from a slab at step 0.
+    fn landed(slab: Cell) -> ([i64; 3], [i64; 2]) {
+        let pose = pose(Step { number: 0 });
+        let across = [Edge { at: -100 }, Edge { at: 0 }, Edge { at: 100 }];
+        let up = [Edge { at: -50 }, Edge { at: 50 }];
+        (
+            across.map(|e| pose.cross_edge(slab, e)),
+            up.map(|z| pose.height_edge(slab, z)),
+        )
+    }
+
     #[test]
     fn voxels_toward_the_source_land_wider(rt: HostRuntime) {
-        let reach = Distances {
-            source: 1000,
-            panel: 2000,
+        let slab = Cell {
+            low: Edge { at: 0 },
+            high: Edge { at: 100 },
         };
-        let toward = direction(Step { number: 0 });
-        let low = Edge { at: 0 };
-        let high = Edge { at: 100 };
-        assert_eq!(rt;
-            cross_edge(reach, toward, low, high, Edge { at: -100 }),
-            -106
-        );
-        assert_eq!(rt; cross_edge(reach, toward, low, high, Edge { at: 0 }), 0);
-        assert_eq!(rt; cross_edge(reach, toward, low, high, Edge { at: 100 }), 105);
-        assert_eq!(rt;
-            height_edge(reach, toward, low, high, Edge { at: -50 }),
-            -53
-        );
-        assert_eq!(rt; height_edge(reach, toward, low, high, Edge { at: 50 }), 52);
+        assert_eq!(rt; landed(slab), ([-106, 0, 105], [-53, 52]));
     }
 
     #[test]
     fn voxels_beyond_the_axis_land_narrower(rt: HostRuntime) {
-        let reach = Distances {
-            source: 1000,
-            panel: 2000,
+        let slab = Cell {
+            low: Edge { at: -100 },
+            high: Edge { at: 0 },
         };
-        let toward = direction(Step { number: 0 });
-        let low = Edge { at: -100 };
-        let high = Edge { at: 0 };
-        assert_eq!(rt;
-            cross_edge(reach, toward, low, high, Edge { at: -100 }),
-            -96
-        );
-        assert_eq!(rt; cross_edge(reach, toward, low, high, Edge { at: 0 }), 0);
-        assert_eq!(rt; cross_edge(reach, toward, low, high, Edge { at: 100 }), 95);
-        assert_eq!(rt;
-            height_edge(reach, toward, low, high, Edge { at: -50 }),
-            -48
-        );
-        assert_eq!(rt; height_edge(reach, toward, low, high, Edge { at: 50 }), 47);
+        assert_eq!(rt; landed(slab), ([-96, 0, 95], [-48, 47]));
     }
 
     #[test]
     fn columns_land_turned_about_after_half_a_turn(rt: HostRuntime) {
-        let reach = Distances {
-            source: 1000,
-            panel: 2000,
-        };
-        let toward = direction(Step { number: 32 });
-        assert_eq!(rt; column_edge(reach, toward, Edge { at: -200 }), 100);
-        assert_eq!(rt; column_edge(reach, toward, Edge { at: 0 }), 0);
-        assert_eq!(rt; column_edge(reach, toward, Edge { at: 200 }), -100);
+        let pose = pose(Step { number: 32 });
+        assert_eq!(rt; pose.column_edge(Edge { at: -200 }), 100);
+        assert_eq!(rt; pose.column_edge(Edge { at: 0 }), 0);
+        assert_eq!(rt; pose.column_edge(Edge { at: 200 }), -100);
     }
 }

@@ -2,11 +2,13 @@
 //! of voxels and of detector cells land on a common plane, and how far the stretches between two edges overlap.
 #![tactic(auto)]
 
+pub mod cell;
 pub mod direction;
 pub mod distances;
 pub mod edge;
 mod floor;
 pub mod landed;
+pub mod no_step;
 pub mod overlap;
 pub mod step;
 pub mod stretch;

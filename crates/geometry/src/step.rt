@@ -5,7 +5,7 @@ ghost use Rattle.std.specs.Prelude.{◌<◌};
 pub const LAST_STEP: i32 = 63;
 
 // One of the 64 equal steps of a whole turn.
-#[derive(Clone, Copy)]
+#[derive(Clone, Copy, PartialEq, Eq, Debug)]
 pub struct Step {
     pub number: usize,
     ghost below: { number < 64 },

@@ -11,6 +11,7 @@ const SINES: [i64; 17] = [
     16305, 16384,
 ];
 
+#[tactic(auto, unfolding(crate::specs::Turn::sine))]
 fn sine_of(r: usize) -> i64
     requires { r < 17 }
     ensures value { result ≡ sine r }
@@ -27,12 +28,13 @@ pub fn heading(step: Step) -> Heading
 {
     let up = sine_of(step.number % 16);
     let down = sine_of(16 - step.number % 16);
-    match step.number / 16 {
-        0 => Heading { s: up, c: down },
-        1 => Heading { s: down, c: -up },
-        2 => Heading { s: -up, c: -down },
-        _ => Heading { s: -down, c: up },
-    }
+    let quarters = [
+        Heading { s: up, c: down },
+        Heading { s: down, c: -up },
+        Heading { s: -up, c: -down },
+        Heading { s: -down, c: up },
+    ];
+    quarters[step.number / 16]
 }
 
 // The slab axis of a step, and the a and b that go with it.

@@ -1,4 +1,3 @@
 pub mod Firsts
 pub mod Propers
 pub mod Reached
-pub mod Views

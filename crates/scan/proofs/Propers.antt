@@ -1,38 +1,36 @@
 -- Edges that pass every check are those of an axis. Assumes nothing.
-use Rattle.std.specs.Prelude.{◌≡◌, ℕ, ◌+◌, ◌-◌, ◌<◌, ◌≤◌, Bool, false, List, length, get_or, ℤ, pos, ◌<ℤ◌, Some, None, Option, int_le, nat_lt, slice_index_or, unsigned_abs, refl}
-use Rattle.std.proofs.Common.{arith}
+use Rattle.std.specs.Prelude.{◌≡◌, ℕ, ◌+◌, ◌-◌, ◌<◌, ◌≤◌, min, Bool, false, List, length, ℤ, pos, ◌<ℤ◌, Some, None, Option, int_le, nat_lt, slice_index_or, unsigned_abs, refl}
+use Rattle.std.proofs.Common.{ap, arith, w32, SFits}
 use Rattle.std.proofs.lemmas.Int.{ints}
 use Rattle.std.proofs.lemmas.Bool.{ltb-false, or_parts}
 use Rattle.std.proofs.lemmas.List.FromFn.{length-map-range_with_len, get_or-map-range_with_len}
 use Rattle.std.specs.Option.{option_or, option_map}
-use Rattle.scan.specs.Axes.{Proper, Rises, Within, even_edge, even_edges}
+use Rattle.scan.specs.Axes.{Proper, Rises, Within, edge_of, even_edge, even_edges}
 use Rattle.scan.specs.Checks.{first_outside, first_not_rising, edges_check, count_check}
-use Rattle.scan.proofs.Firsts.{or_none, cond_none, first_none}
-
-pub mapped_none : {X Y : Type 0} (f : X → Y) (o : Option X) → option_map f o ≡ None → o ≡ None
-mapped_none f None e = refl
-mapped_none f (Some x) e = absurd (grind arith)
-
-not_le : (a b : ℤ) → int_le b a ≡ false → a <ℤ b
-not_le a b e = grind (arith, ints)
+use Rattle.scan.specs.Numbered.{edge_within}
+use Rattle.scan.proofs.Firsts.{first_none}
 
 -- n edges by their numbers, and the list of them
 module _ (n : ℕ) (edge : ℕ → ℤ) (es : List ℤ) (long : length es ≡ n) (same : (i : ℕ) → i < n → slice_index_or es i (pos 0) ≡ edge i) (passed : edges_check n edge ≡ None) where
-  pub within : Within es
+  within : Within es
   within i l =
       let here : i < n = omega arith in
       let test : ℕ → Bool = λ k. nat_lt 4194304 (unsigned_abs (edge k)) in
-      let none : first_outside 4194304 n edge ≡ None = mapped_none _ _ (or_none _ _ passed).0 in
+      let none : first_outside 4194304 n edge ≡ None = grind arith in
       rw (same i here) (ltb-false 4194304 (unsigned_abs (edge i)) (first_none test n none i here))
 
-  pub rises : Rises es
+  rises : Rises es
   rises i l =
       let here : i < n = omega arith in
       let next : i + 1 < n = omega arith in
       let cell : i < n - 1 = omega arith in
       let test : ℕ → Bool = λ k. int_le (edge (k + 1)) (edge k) in
-      let none : first_not_rising (n - 1) edge ≡ None = mapped_none _ _ (or_none _ _ passed).1 in
-      rw (same i here, same (i + 1) next) (not_le (edge i) (edge (i + 1)) (first_none test (n - 1) none i cell))
+      let none : first_not_rising (n - 1) edge ≡ None = grind arith in
+      let above = first_none test (n - 1) none i cell in
+      rw (same i here, same (i + 1) next) (grind (arith, ints))
+
+  pub proper : 2 ≤ n → n ≤ 513 → Proper es
+  proper some few = record { least = omega arith; most = omega arith; rises = rises; within = within }
 
 pub even_length : (first pitch : ℤ) (n : ℕ) → length (even_edges first pitch n) ≡ n + 1
 even_length first pitch n = length-map-range_with_len (even_edge first pitch) 0 (n + 1)
@@ -40,27 +38,26 @@ even_length first pitch n = length-map-range_with_len (even_edge first pitch) 0 
 pub even_edge_at : (first pitch : ℤ) (n i : ℕ) → i < n + 1 → slice_index_or (even_edges first pitch n) i (pos 0) ≡ even_edge first pitch i
 even_edge_at first pitch n i l = get_or-map-range_with_len (even_edge first pitch) 0 (n + 1) i i (pos 0) l (omega arith)
 
-pub even_rises : (first pitch : ℤ) (n : ℕ) → edges_check (n + 1) (even_edge first pitch) ≡ None → Rises (even_edges first pitch n)
-even_rises first pitch n = rises (n + 1) (even_edge first pitch) (even_edges first pitch n) (even_length first pitch n) (even_edge_at first pitch n)
+count_within : (found least most : ℕ) → count_check found least most ≡ None → (least ≤ found) × (found ≤ most)
+count_within found least most e = (grind arith, grind arith)
 
-pub even_within : (first pitch : ℤ) (n : ℕ) → edges_check (n + 1) (even_edge first pitch) ≡ None → Within (even_edges first pitch n)
-even_within first pitch n = within (n + 1) (even_edge first pitch) (even_edges first pitch n) (even_length first pitch n) (even_edge_at first pitch n)
+-- an edge of an even axis, where a number past the last stands for the last
+pub even_edge_of : (first pitch : ℤ) (n i k : ℕ) → k ≡ min i n → edge_of (even_edges first pitch n) i ≡ even_edge first pitch k
+even_edge_of first pitch n i k e =
+    let long = even_length first pitch n in
+    let place : min i (length (even_edges first pitch n) - 1) ≡ k = omega arith in
+    rw place (even_edge_at first pitch n k (omega arith))
 
-pub count_within : (found least most : ℕ) → count_check found least most ≡ None → (least ≤ found) × (found ≤ most)
-count_within found least most e =
-    let p = or_parts _ _ (cond_none _ _ e) in
-    (ltb-false found least p.0, ltb-false most found p.1)
+-- an edge of an axis fits 32 bits
+pub edge_fits : (es : List ℤ) → Proper es → (i : ℕ) (z : ℤ) → z ≡ edge_of es i → SFits w32 z
+edge_fits es proper i z e = let size = ap unsigned_abs e in let small = edge_within es proper i in omega (arith, ints)
 
--- the checks one after another
-pub after_none : {X : Type 0} (o p : Option X) {q : Option X} → o ≡ None → p ≡ q → option_or o p ≡ q
-after_none o p e f = rw e f
-
-pub listed_proper : (es vs : List ℤ) → vs ≡ es → count_check (length es) 2 513 ≡ None → edges_check (length es) (λ i. get_or es i (pos 0)) ≡ None → Proper vs
+pub listed_proper : (es vs : List ℤ) → vs ≡ es → count_check (length es) 2 513 ≡ None → edges_check (length es) (λ i. slice_index_or es i (pos 0)) ≡ None → Proper vs
 listed_proper es vs e counted passed =
     let n = count_within (length es) 2 513 counted in
-    rw e (record {
-      least = n.0;
-      most = n.1;
-      rises = rises (length es) (λ i. get_or es i (pos 0)) es refl (λ i l. refl) passed;
-      within = within (length es) (λ i. get_or es i (pos 0)) es refl (λ i l. refl) passed;
-    })
+    rw e (proper (length es) (λ i. slice_index_or es i (pos 0)) es refl (λ i l. refl) passed n.0 n.1)
+
+pub even_proper : (first pitch : ℤ) (n : ℕ) → count_check n 1 512 ≡ None → edges_check (n + 1) (even_edge first pitch) ≡ None → Proper (even_edges first pitch n)
+even_proper first pitch n counted passed =
+    let few = count_within n 1 512 counted in
+    proper (n + 1) (even_edge first pitch) (even_edges first pitch n) (even_length first pitch n) (even_edge_at first pitch n) passed (omega arith) (omega arith)

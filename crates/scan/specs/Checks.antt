@@ -1,5 +1,6 @@
 -- What is checked of the edges of an axis, in which order, and the refusal that follows.
-use Rattle.std.specs.Prelude.{◌≡◌, ℕ, zero, suc, ◌+◌, ◌-◌, Bool, cond, ◌||◌, List, length, ℤ, pos, Some, None, Ok, Err, Option, Result, int_le, nat_lt, slice_index_or, unsigned_abs}
+use Rattle.std.specs.Prelude.{◌≡◌, ℕ, ◌+◌, ◌-◌, Bool, if◌then◌else◌, ◌||◌, List, length, ℤ, pos, Some, None, Ok, Err, Option, Result, int_le, nat_lt, slice_index_or, unsigned_abs}
+use Rattle.std.specs.List.{find, range_with_len}
 use Rattle.std.specs.Option.{option_or, option_map}
 use Rattle.scan.specs.Axes.{even_edge}
 use Rattle.scan.specs.declared.failure.Failure.{Failure}
@@ -20,12 +21,11 @@ Outcome check P (Err Memory) = check ≡ None
 
 -- A refusal where a condition holds.
 abbrev pub refused_where : Bool → Refusal → Option Refusal
-refused_where holds refusal = cond holds (Some refusal) None
+refused_where holds refusal = (if holds then Some refusal else None)
 
 -- The least number below n at which the test holds.
 abbrev pub first_where : (ℕ → Bool) → ℕ → Option ℕ
-first_where test zero = None
-first_where test (suc n) = option_or (first_where test n) (cond (test n) (Some n) None)
+first_where test n = find test (range_with_len 0 n)
 
 -- The first of n edges, each by its number, that lies more than the limit from 0.
 abbrev pub first_outside : ℕ → ℕ → (ℕ → ℤ) → Option ℕ

@@ -1,16 +1,14 @@
--- Every plan fits. Assumes nothing.
+-- Every layout fits. Assumes nothing.
 use Rattle.std.specs.Prelude.{◌≡◌, ℕ, zero, suc, ◌<◌, List, [], ◌∷◌, length, ℤ, vec_items, vec_len, Vec, slice_index, slice_index_or}
 use Rattle.std.proofs.Common.{sym, ap, ◌∙◌, arith}
 use Rattle.std.specs.declared.alloc.Global.{Global}
-use Rattle.std.proofs.lemmas.List.{length-map}
+use Rattle.std.proofs.lemmas.List.{length-map, get_or-map}
 use Rattle.std.proofs.lemmas.Int.{ints}
 use Rattle.geometry.specs.declared.direction.SlabAxis.{SlabAxis}
 use Rattle.geometry.specs.declared.step.Step.{Step}
-use Rattle.scan.specs.declared.listed.ListedAxis.{ListedAxis}
-use Rattle.scan.specs.declared.plan.Plan.{Plan}
-use Rattle.scan.specs.Axes.{Proper}
+use Rattle.scan.specs.declared.layout.Layout.{Layout}
 use Rattle.scan.specs.Plans.{Scan, Fitted, landing_of}
-use Rattle.scan.specs.Meanings.{numbers, plan_of}
+use Rattle.scan.specs.Meanings.{numbers, scan_of}
 
 -- as many views as numbers of views
 pub views_length : (views : Vec Step Global) → vec_len views ≡ length (numbers (vec_items views))
@@ -23,30 +21,25 @@ step_below (step ∷ steps) (suc v) = step_below steps v
 
 -- the number of the view at v
 pub number_at : (steps : List Step) (v : ℕ) (step : Step) → v < length steps → step ≡ slice_index_or steps v step → step.number ≡ slice_index (numbers steps) v
-number_at [] v step l e = absurd (omega arith)
-number_at (first ∷ rest) zero step l e = ap (λ (s : Step). s.number) e
-number_at (first ∷ rest) (suc v) step l e = number_at rest v step (omega arith) e
+number_at steps v step l e = ap (λ (s : Step). s.number) e ∙ sym (get_or-map (λ (s : Step). s.number) steps v step 0 l)
 
-listed : (axis : ListedAxis) → Proper (vec_items axis.edges)
-listed axis = record { least = axis.least; most = axis.most; rises = axis.rises; within = axis.within }
-
-pub fitted : (plan : Plan) → Fitted (plan_of plan)
-fitted plan =
-    let far = plan.layout.distances in
+pub fitted : (layout : Layout) → Fitted (scan_of layout)
+fitted layout =
+    let far = layout.distances.admitted in
     record {
       source_least = omega (arith, ints, far.source_some);
       source_most = omega (arith, ints, far.source_some, far.source_most);
       panel_least = far.panel_least;
       panel_most = omega (arith, ints, far.source_some, far.panel_least, far.panel_most);
-      x = listed plan.layout.x;
-      y = listed plan.layout.y;
-      z = listed plan.layout.z;
-      column = listed plan.layout.column;
-      row = listed plan.layout.row;
-      near = plan.layout.near;
-      reaches = plan.layout.reaches;
-      steps = step_below (vec_items plan.views);
-      views = omega (arith, views_length plan.views, plan.few);
+      x = layout.x.proper;
+      y = layout.y.proper;
+      z = layout.z.proper;
+      column = layout.column.proper;
+      row = layout.row.proper;
+      near = layout.near;
+      reaches = layout.reaches;
+      steps = step_below (vec_items layout.views);
+      views = omega (arith, views_length layout.views, layout.few);
     }
 
 -- the same direction lands the same

@@ -18,7 +18,8 @@ use Rattle.scan.specs.Landing.{Landing, Sound, Counted, weight, cross_overlap, h
 use Rattle.scan.specs.Plans.{Scan, Fitted, greatest, slab_edges, cross_edges, slab_middle, column_middle, low_of, high_of, cell_of, landing_of, landing, step_of}
 use Rattle.scan.specs.Lands.{Divides, Lands}
 use Rattle.scan.specs.Numbered.{edge_within, edge_rises}
-use Rattle.geometry.proofs.Conditions.{Placed, Reached, Steep}
+use Rattle.geometry.proofs.Conditions.{Placed, Reached}
+use Rattle.geometry.specs.Steep.{Steep}
 use Rattle.geometry.proofs.FloorLaws.{floor_is}
 
 -- no edge lies farther out than the greatest

@@ -10,9 +10,9 @@ use Rattle.scan.specs.declared.plan.Plan.{Plan}
 abbrev pub numbers : List Step → List ℕ
 numbers steps = map (λ step. step.number) steps
 
--- The scan of a layout that is viewed from steps of these numbers.
-abbrev pub scan_of : Layout → List ℕ → Scan
-scan_of layout steps =
+-- The scan of a layout.
+abbrev pub scan_of : Layout → Scan
+scan_of layout =
     record {
       source = layout.distances.source;
       panel = layout.distances.panel;
@@ -21,13 +21,13 @@ scan_of layout steps =
       z = vec_items layout.z.edges;
       column = vec_items layout.column.edges;
       row = vec_items layout.row.edges;
-      steps = steps;
+      steps = numbers (vec_items layout.views);
     }
 
 -- The scan of a draft.
 abbrev pub draft_of : Draft → Scan
-draft_of draft = scan_of draft.layout (numbers (vec_items draft.views))
+draft_of draft = scan_of draft.layout
 
 -- The scan of a plan.
 abbrev pub plan_of : Plan → Scan
-plan_of plan = scan_of plan.layout (numbers (vec_items plan.views))
+plan_of plan = scan_of plan.layout

@@ -1,14 +1,15 @@
 -- The edges of an axis by their numbers. Assumes nothing.
-use Rattle.std.specs.Prelude.{◌≡◌, ℕ, ◌+◌, ◌-◌, ◌<◌, ◌≤◌, min, List, [], ◌∷◌, ◌++◌, length, get_or, take, ℤ, pos, ◌≤ℤ◌, slice_index_or, unsigned_abs}
-use Rattle.std.proofs.Common.{sym, ap, ◌∙◌, ⊎_elim, arith}
-use Rattle.std.proofs.lemmas.List.{take_more}
+use Rattle.std.specs.Prelude.{◌≡◌, ℕ, ◌+◌, ◌-◌, ◌<◌, ◌≤◌, min, List, map, length, ℤ, pos, ◌≤ℤ◌, slice_index_or, unsigned_abs, refl}
+use Rattle.std.specs.List.{range_with_len}
+use Rattle.std.proofs.Common.{sym, ap, ⊎_elim, arith}
+use Rattle.std.proofs.lemmas.List.FromFn.{fill_by_all}
 use Rattle.std.proofs.lemmas.Int.{ints}
 use Rattle.std.proofs.lemmas.Bool.{cases_lt}
 use Rattle.scan.specs.Axes.{Proper, edge_of}
 
 -- an edge that there is
 pub edge_at : (es : List ℤ) (i : ℕ) → i < length es → edge_of es i ≡ slice_index_or es i (pos 0)
-edge_at es i l = let e : min i (length es - 1) ≡ i = omega arith in ap (λ k. get_or es k (pos 0)) e
+edge_at es i l = let e : min i (length es - 1) ≡ i = omega arith in ap (λ k. slice_index_or es k (pos 0)) e
 
 module _ (es : List ℤ) (proper : Proper es) where
   pub edge_within : (i : ℕ) → unsigned_abs (edge_of es i) ≤ 4194304
@@ -19,10 +20,9 @@ module _ (es : List ℤ) (proper : Proper es) where
       ⊎_elim
       (λ lt. let up = proper.rises i lt in rw (edge_at es i (omega arith), edge_at es (i + 1) lt) (omega (arith, ints)))
       (λ ge. let e : min i (length es - 1) ≡ min (i + 1) (length es - 1) = omega arith in
-      let same = ap (λ k. get_or es k (pos 0)) e in omega (arith, ints))
+      let same = ap (λ k. slice_index_or es k (pos 0)) e in omega (arith, ints))
       (cases_lt (i + 1) (length es))
 
--- a list of the first edges, with one more
-pub edges_more : (es vs ws : List ℤ) (i : ℕ) (r : ℤ) → i < length es → vs ≡ take i es → ws ≡ vs ++ (r ∷ []) → r ≡ edge_of es i → ws ≡ take (i + 1) es
-edges_more es vs ws i r l old pushed at =
-    pushed ∙ ap (λ us. us ++ (r ∷ [])) old ∙ ap (λ e. take i es ++ (e ∷ [])) (at ∙ edge_at es i l) ∙ sym (take_more es i (pos 0) l)
+-- the list of the edges by their numbers
+pub by_number : (es : List ℤ) → es ≡ map (edge_of es) (range_with_len 0 (length es))
+by_number es = fill_by_all (edge_of es) es (length es) (pos 0) refl (λ i l. sym (edge_at es i l))

@@ -8,6 +8,8 @@ use Rattle.scan.specs.Axes.{Proper, cells_of, edge_of}
 use Rattle.scan.specs.Checks.{refused_where, first_where}
 use Rattle.scan.specs.Landing.{Landing, by_slabs, weight}
 use Rattle.scan.specs.declared.refusal.Refusal.{Refusal}
+use Rattle.scan.specs.declared.scan_axis.ScanAxis.{ScanAxis}
+use Rattle.scan.specs.declared.scan_axis.ScanAxis.TheVariants.{X, Y, Z, Column, Row}
 use Rattle.scan.specs.declared.refusal.Refusal.TheVariants.{SourceDistance, PanelDistance, SourceTooNear, ColumnBeyond, StepOutOfRange, DraftFull}
 
 -- A scan: the distances D and F from the source to the rotation axis and to the panel, the edges of the volume and of the panel, and the steps of the turn that it is viewed from.
@@ -97,6 +99,14 @@ pub record Fitted (scan : Scan) : Type 0 where
   pub reaches : Reaches scan.panel scan.column
   pub steps : (v : ℕ) → slice_index scan.steps v < 64
   pub views : length scan.steps ≤ 1024
+
+-- The edges of one axis of a scan.
+abbrev pub edges_along : Scan → ScanAxis → List ℤ
+edges_along scan X = scan.x
+edges_along scan Y = scan.y
+edges_along scan Z = scan.z
+edges_along scan Column = scan.column
+edges_along scan Row = scan.row
 
 -- The cell of a number, where a number past the last stands for the last.
 abbrev pub cell_of : List ℤ → ℕ → ℕ

@@ -1,5 +1,8 @@
--- The number and the place of each refusal.
-use Rattle.std.specs.Prelude.{ℕ}
+-- The number, the place and the text of each refusal.
+use Rattle.std.specs.Prelude.{ℕ, List, ◌++◌, codes}
+use Rattle.std.specs.Fmt.{decimal}
+use Rattle.scan.specs.declared.failure.Failure.{Failure}
+use Rattle.scan.specs.declared.failure.Failure.TheVariants.{Refused, Memory}
 use Rattle.scan.specs.declared.refusal.Refusal.{Refusal}
 use Rattle.scan.specs.declared.refusal.Refusal.TheVariants.{Count, NotRising, OutOfRange, SourceDistance, PanelDistance, SourceTooNear, ColumnBeyond, StepOutOfRange, DraftFull, NoView, StoreLength}
 
@@ -30,3 +33,12 @@ place (StepOutOfRange step) = 0
 place (DraftFull views) = 0
 place (NoView view views) = 0
 place (StoreLength store found wanted) = 0
+
+-- What is printed of a refusal.
+abbrev pub refusal_text : Refusal → List ℕ
+refusal_text refusal = codes "refused by " ++ decimal (number refusal) ++ codes " at place " ++ decimal (place refusal)
+
+-- What is printed where something was not made.
+abbrev pub failure_text : Failure → List ℕ
+failure_text (Refused refusal) = refusal_text refusal
+failure_text Memory = codes "there is no memory"

@@ -12,15 +12,15 @@ use crate::listed::ListedAxis;
 use crate::plan::Plan;
 use crate::refusal::Refusal;
 use geometry::distances::{Distances, FARTHEST_PANEL, FARTHEST_SOURCE};
-use geometry::step::{LAST_STEP, Step};
+use geometry::step::Step;
 use std::alloc::Global;
 
 // Refuses D, from the source to the rotation axis, out of its range (6), and then F, from the source to the panel (6).
 fn distances_of(source: i32, panel: i32) -> Result<Distances, Refusal>
     ensures { Verdict (distances_check source panel) (λ d. (d.source ≡ source) × (d.panel ≡ panel)) result }
 {
-    let source = source as i64;
-    let panel = panel as i64;
+    let source = i64::from(source);
+    let panel = i64::from(panel);
     if source < 1 || FARTHEST_SOURCE < source {
         return Err(Refusal::SourceDistance { at: source });
     }
@@ -34,23 +34,17 @@ fn distances_of(source: i32, panel: i32) -> Result<Distances, Refusal>
 fn farthest<A: Axis>(axis: &A) -> u32
     ensures { result ≡ greatest (A.edges axis.now) }
 {
-    let mut most: u32 = 0;
-    for i in 0..axis.cells() + 1 {
-        most = most.max(axis.edge(i).unsigned_abs());
-    }
-    most
+    (0..axis.cells() + 1)
+        .map(|i| axis.edge(i).unsigned_abs())
+        .max()
+        .unwrap_or(0)
 }
 
 // The first edge of an axis that lies as far from 0 as the limit, or farther.
 fn first_beyond<A: Axis>(axis: &A, limit: u64) -> Option<usize>
     ensures { result ≡ first_beyond limit (A.edges axis.now) }
 {
-    for i in 0..axis.cells() + 1 {
-        if limit <= axis.edge(i).unsigned_abs() as u64 {
-            return Some(i);
-        }
-    }
-    None
+    (0..axis.cells() + 1).find(|&i| limit <= u64::from(axis.edge(i).unsigned_abs()))
 }
 
 // Refuses a source too near the volume (7), and then a column edge as far from 0 as F, or farther (8).
@@ -63,16 +57,16 @@ fn check_reach<X: Axis, Y: Axis, C: Axis>(
     ensures { Verdict (reach_check distances.source distances.panel (X.Axis.edges x.now) (Y.Axis.edges y.now) (C.Axis.edges column.now)) (λ _. Unit {0}) result }
 {
     let widest = farthest(x).max(farthest(y));
-    if distances.source.unsigned_abs() <= 2 * widest as u64 {
+    if distances.source.unsigned_abs() <= 2 * u64::from(widest) {
         return Err(Refusal::SourceTooNear {
             source: distances.source,
-            widest: widest as i64,
+            widest: i64::from(widest),
         });
     }
     if let Some(edge) = first_beyond(column, distances.panel.unsigned_abs()) {
         return Err(Refusal::ColumnBeyond {
             edge,
-            at: column.edge(edge) as i64,
+            at: i64::from(column.edge(edge)),
             panel: distances.panel,
         });
     }
@@ -83,15 +77,11 @@ fn check_reach<X: Axis, Y: Axis, C: Axis>(
 fn check_view(views: usize, step: i32) -> Result<Step, Refusal>
     ensures { Verdict (view_check views step) (λ s. s.number ≡ unsigned_abs step) result }
 {
-    if step < 0 || LAST_STEP < step {
-        return Err(Refusal::StepOutOfRange { step: step as i64 });
-    }
+    let step = Step::try_from(step)?;
     if MOST_VIEWS <= views {
         return Err(Refusal::DraftFull { views });
     }
-    Ok(Step {
-        number: step as usize,
-    })
+    Ok(step)
 }
 
 impl Draft {
@@ -124,8 +114,8 @@ impl Draft {
                 z,
                 column,
                 row,
+                views: Vec::new(heap),
             },
-            views: Vec::new(heap),
         })
     }
 
@@ -134,9 +124,9 @@ impl Draft {
         ensures value { Outcome (view_check (length (draft_of self.old).steps) step) (λ n. n ≡ length (draft_of self.old).steps) result }
         ensures after { draft_of self.new ≡ elim result [ Ok n ↦ with_view (draft_of self.old) (unsigned_abs step) | Err e ↦ draft_of self.old ] }
     {
-        let views = self.views.len();
+        let views = self.layout.views();
         let step = check_view(views, step)?;
-        self.views.push(step)?;
+        self.layout.views.push(step)?;
         Ok(views)
     }
 
@@ -144,7 +134,7 @@ impl Draft {
     pub fn views(&self) -> usize
         ensures { result ≡ length (draft_of self.now).steps }
     {
-        self.views.len()
+        self.layout.views()
     }
 
     // The plan of the scan as it stands.
@@ -152,7 +142,8 @@ impl Draft {
         ensures holds { plan_of result ≡ draft_of self }
         ensures fitted { Fitted (plan_of result) }
     {
-        let Draft { layout, views } = self;
-        Plan { layout, views }
+        Plan {
+            layout: self.layout,
+        }
     }
 }

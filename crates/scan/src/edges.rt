@@ -1,5 +1,5 @@
 // The checks that the edges of every kind of axis pass before they are an axis.
-ghost use Rattle.std.specs.Prelude.{◌≡◌, ℕ, ◌-◌, ◌<◌, ℤ, IfSome};
+ghost use Rattle.std.specs.Prelude.{◌≡◌, ℕ, ◌+◌, ◌-◌, ◌^◌, ◌<◌, ℤ, IfSome};
 ghost use Rattle.scan.specs.Checks.{Verdict, count_check, first_outside, first_not_rising, edges_check};
 
 use crate::refusal::Refusal;
@@ -34,12 +34,7 @@ pub(crate) fn first_outside<E: Edges>(edges: &E, limit: u64) -> Option<usize>
     ensures value { result ≡ first_outside limit (E.count edges.now) (E.at edges.now) }
     ensures within { IfSome result (λ i. i < E.count edges.now) }
 {
-    for i in 0..edges.len() {
-        if edges.get(i).unsigned_abs() > limit {
-            return Some(i);
-        }
-    }
-    None
+    (0..edges.len()).find(|&i| edges.get(i).unsigned_abs() > limit)
 }
 
 // The first cell whose upper edge is not above its lower one.
@@ -48,12 +43,12 @@ fn first_not_rising<E: Edges>(edges: &E, cells: usize) -> Option<usize>
     ensures value { result ≡ first_not_rising cells (E.at edges.now) }
     ensures within { IfSome result (λ i. i < cells) }
 {
-    for i in 0..cells {
-        if edges.get(i + 1) <= edges.get(i) {
-            return Some(i);
-        }
-    }
-    None
+    (0..cells).find(|&i|
+        requires cell { i + 1 < E.count edges.now }
+        requires size { i + 1 < 2 ^ 64 }
+    {
+        edges.get(i + 1) <= edges.get(i)
+    })
 }
 
 // Refuses edges that lie out of range (5), and then those that do not rise (4).

@@ -1,9 +1,7 @@
 // An axis whose cells are all as wide.
 ghost use Rattle.std.specs.Prelude.{◌≡◌, ◌+◌, ◌≤◌};
-ghost use Rattle.scan.specs.Axes.{Rises, Within, even_edge, even_edges};
+ghost use Rattle.scan.specs.Axes.{Proper, even_edge, even_edges};
 ghost use Rattle.scan.specs.Checks.{Verdict, even_check};
-ghost use Rattle.std.proofs.Common.{arith};
-ghost use Rattle.std.proofs.lemmas.List.FromFn.{length-map-range_with_len};
 
 use crate::axis::Axis;
 use crate::edges::{Edges, check_count, check_edges};
@@ -28,16 +26,14 @@ impl Edges for Spaced {
     }
 
     fn get(&self, i: usize) -> i64 {
-        self.first as i64 + i as i64 * self.pitch as i64
+        i64::from(self.first) + i as i64 * i64::from(self.pitch)
     }
 }
 
 #[derive(Clone, Copy)]
 pub struct EvenAxis {
     spaced: Spaced,
-    ghost some: { 1 ≤ spaced.cells },
-    ghost rises: { Rises (even_edges spaced.first spaced.pitch spaced.cells) },
-    ghost within: { Within (even_edges spaced.first spaced.pitch spaced.cells) },
+    ghost proper: { Proper (even_edges spaced.first spaced.pitch spaced.cells) },
 }
 
 impl EvenAxis {
@@ -59,9 +55,7 @@ impl EvenAxis {
 impl Axis for EvenAxis {
     ghost edges = { λ a. even_edges a.spaced.first a.spaced.pitch a.spaced.cells };
 
-    ghost proper = { λ a.
-        let long = length-map-range_with_len (even_edge a.spaced.first a.spaced.pitch) 0 (a.spaced.cells + 1) in
-        record { least = omega arith; most = omega (arith, a.spaced.few); rises = a.rises; within = a.within } };
+    ghost proper = { λ a. a.proper };
 
     fn cells(&self) -> usize {
         self.spaced.cells

@@ -1,9 +1,12 @@
 // Why something was not made: it was refused, or there was no memory for it.
-ghost use Rattle.std.specs.Prelude.{◌≡◌};
+ghost use Rattle.std.specs.Prelude.{◌≡◌, Some};
+ghost use Rattle.scan.specs.Refusals.{failure_text};
 ghost use Rattle.scan.specs.declared.failure.Failure.TheVariants.{Refused as Refusing, Memory};
 
 use crate::refusal::Refusal;
 use std::alloc::{AllocError, AllocFailed};
+use std::error::Error;
+use std::fmt;
 
 #[derive(Clone, Copy, PartialEq, Eq, Debug)]
 pub enum Failure {
@@ -34,3 +37,16 @@ impl<T: Drop> From<AllocFailed<T>> for Failure {
         Failure::Memory
     }
 }
+
+impl fmt::Display for Failure {
+    ghost output = { λ failure. Some (failure_text failure) };
+
+    fn fmt<W: fmt::Write>(&self, f: &mut fmt::Formatter<W>) -> fmt::Result {
+        match self {
+            Failure::Refused(refusal) => write!(f, "{refusal}"),
+            Failure::Memory => write!(f, "there is no memory"),
+        }
+    }
+}
+
+impl Error for Failure {}

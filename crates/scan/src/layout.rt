@@ -1,8 +1,10 @@
-// What a draft and a plan hold of a scan besides its views.
+// What a draft and a plan hold of a scan.
+ghost use Rattle.std.specs.Prelude.{◌≤◌, vec_len};
 ghost use Rattle.scan.specs.Plans.{Near, Reaches};
 
 use crate::listed::ListedAxis;
 use geometry::distances::Distances;
+use geometry::step::Step;
 
 #[derive(Drop)]
 pub(crate) struct Layout {
@@ -12,6 +14,8 @@ pub(crate) struct Layout {
     pub(crate) z: ListedAxis,
     pub(crate) column: ListedAxis,
     pub(crate) row: ListedAxis,
+    pub(crate) views: Vec<Step>,
     ghost near: { Near distances.source x.edges.items y.edges.items },
     ghost reaches: { Reaches distances.panel column.edges.items },
+    ghost few: { vec_len views ≤ 1024 },
 }

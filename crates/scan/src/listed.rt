@@ -1,11 +1,14 @@
 // An axis whose edges are listed.
-ghost use Rattle.std.specs.Prelude.{◌≡◌, ◌≤◌, length, pos, IfOk, slice_index_or};
-ghost use Rattle.scan.specs.Axes.{Rises, Within};
+ghost use Rattle.std.specs.Prelude.{◌≡◌, length, pos, IfOk, slice_index_or};
+ghost use Rattle.scan.specs.Axes.{Proper, edge_of};
 ghost use Rattle.scan.specs.Checks.{Outcome, listed_check};
+ghost use Rattle.scan.specs.Plans.{low_of, high_of};
 
 use crate::axis::Axis;
 use crate::edges::{Edges, check_count, check_edges};
 use crate::failure::Failure;
+use geometry::cell::Cell;
+use geometry::edge::Edge;
 use std::alloc::{AllocError, Global};
 
 impl Edges for &[i32] {
@@ -18,17 +21,21 @@ impl Edges for &[i32] {
     }
 
     fn get(&self, i: usize) -> i64 {
-        self[i] as i64
+        i64::from(self[i])
     }
+}
+
+// The edges of any axis, listed.
+fn edges_of<A: Axis>(heap: Global, axis: &A) -> Result<Vec<i32>, AllocError>
+    ensures { IfOk result (λ edges. edges.items ≡ A.edges axis.now) }
+{
+    (0..axis.cells() + 1).map(|i| axis.edge(i)).collect(heap)
 }
 
 #[derive(Drop)]
 pub struct ListedAxis {
     pub(crate) edges: Vec<i32>,
-    ghost least: { 2 ≤ length edges.items },
-    ghost most: { length edges.items ≤ 513 },
-    ghost rises: { Rises edges.items },
-    ghost within: { Within edges.items },
+    ghost proper: { Proper edges.items },
 }
 
 impl ListedAxis {
@@ -43,22 +50,43 @@ impl ListedAxis {
         })
     }
 
-    // The edges of any axis, listed.
+    // The axis of the edges of any axis.
     pub(crate) fn copy_of<A: Axis>(heap: Global, axis: &A) -> Result<ListedAxis, AllocError>
         ensures { IfOk result (λ a. a.edges.items ≡ A.edges axis.now) }
     {
-        let mut edges = Vec::new(heap);
-        for i in 0..axis.cells() + 1 {
-            edges.push(axis.edge(i))?;
+        Ok(ListedAxis {
+            edges: edges_of(heap, axis)?,
+        })
+    }
+}
+
+impl ListedAxis {
+    // The edge of a number, where a number past the last stands for the last.
+    pub(crate) fn edge_at(&self, i: usize) -> Edge
+        ensures { result.at ≡ edge_of self.now.edges.items i }
+    {
+        Edge {
+            at: i64::from(self.edge(i)),
         }
-        Ok(ListedAxis { edges })
+    }
+
+    // The cell of a number, where a number past the last stands for the last.
+    pub(crate) fn cell_at(&self, j: usize) -> Cell
+        ensures low { result.low.at ≡ low_of self.now.edges.items j }
+        ensures high { result.high.at ≡ high_of self.now.edges.items j }
+    {
+        let j = j.min(self.cells() - 1);
+        Cell {
+            low: self.edge_at(j),
+            high: self.edge_at(j + 1),
+        }
     }
 }
 
 impl Axis for ListedAxis {
     ghost edges = { λ a. a.edges.items };
 
-    ghost proper = { λ a. record { least = a.least; most = a.most; rises = a.rises; within = a.within } };
+    ghost proper = { λ a. a.proper };
 
     fn cells(&self) -> usize {
         self.edges.len() - 1

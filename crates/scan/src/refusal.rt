@@ -1,6 +1,11 @@
 // Why a call is refused: a case to each condition, with what it knows.
-ghost use Rattle.std.specs.Prelude.{◌≡◌};
-ghost use Rattle.scan.specs.Refusals.{number, place};
+ghost use Rattle.std.specs.Prelude.{◌≡◌, Some};
+ghost use Rattle.scan.specs.Refusals.{number, place, refusal_text};
+ghost use Rattle.scan.specs.declared.refusal.Refusal.TheVariants.{StepOutOfRange};
+
+use geometry::no_step::NoStep;
+use std::error::Error;
+use std::fmt;
 
 // Which of the caller's stores.
 #[derive(Clone, Copy, PartialEq, Eq, Debug)]
@@ -101,3 +106,23 @@ impl Refusal {
         }
     }
 }
+
+impl From<NoStep> for Refusal {
+    ghost from_gives = { λ e r. r ≡ StepOutOfRange e.number };
+
+    fn from(e: NoStep) -> Refusal {
+        Refusal::StepOutOfRange {
+            step: i64::from(e.number),
+        }
+    }
+}
+
+impl fmt::Display for Refusal {
+    ghost output = { λ refusal. Some (refusal_text refusal) };
+
+    fn fmt<W: fmt::Write>(&self, f: &mut fmt::Formatter<W>) -> fmt::Result {
+        write!(f, "refused by {} at place {}", self.number(), self.place())
+    }
+}
+
+impl Error for Refusal {}

@@ -1,54 +1,27 @@
 // What a plan says of its scan.
 ghost use Rattle.std.specs.Prelude.{◌≡◌, ◌≤◌, length};
 ghost use Rattle.scan.specs.Axes.{cells_of};
-ghost use Rattle.scan.specs.Plans.{voxels_of, panel_of};
+ghost use Rattle.scan.specs.Plans.{edges_along, voxels_of, panel_of};
 ghost use Rattle.scan.specs.Meanings.{plan_of};
 
 use crate::axis::Axis;
 use crate::plan::Plan;
+use crate::scan_axis::ScanAxis;
 
 impl Plan {
     pub fn views(&self) -> usize
         ensures value { result ≡ length (plan_of self.now).steps }
         ensures most { result ≤ 1024 }
     {
-        self.views.len()
+        self.layout.views()
     }
 
-    // The number of cells of the x axis, and likewise of the others.
-    pub fn nx(&self) -> usize
-        ensures value { result ≡ cells_of (plan_of self.now).x }
+    // The number of cells of an axis.
+    pub fn cells_along(&self, axis: ScanAxis) -> usize
+        ensures value { result ≡ cells_of (edges_along (plan_of self.now) axis) }
         ensures most { result ≤ 512 }
     {
-        self.layout.x.cells()
-    }
-
-    pub fn ny(&self) -> usize
-        ensures value { result ≡ cells_of (plan_of self.now).y }
-        ensures most { result ≤ 512 }
-    {
-        self.layout.y.cells()
-    }
-
-    pub fn nz(&self) -> usize
-        ensures value { result ≡ cells_of (plan_of self.now).z }
-        ensures most { result ≤ 512 }
-    {
-        self.layout.z.cells()
-    }
-
-    pub fn columns(&self) -> usize
-        ensures value { result ≡ cells_of (plan_of self.now).column }
-        ensures most { result ≤ 512 }
-    {
-        self.layout.column.cells()
-    }
-
-    pub fn rows(&self) -> usize
-        ensures value { result ≡ cells_of (plan_of self.now).row }
-        ensures most { result ≤ 512 }
-    {
-        self.layout.row.cells()
+        self.layout.axis(axis).cells()
     }
 
     // The number of voxels of the volume.
@@ -56,7 +29,9 @@ impl Plan {
         ensures value { result ≡ voxels_of (plan_of self.now) }
         ensures most { result ≤ 134217728 }
     {
-        self.nz() * self.ny() * self.nx()
+        self.cells_along(ScanAxis::Z)
+            * self.cells_along(ScanAxis::Y)
+            * self.cells_along(ScanAxis::X)
     }
 
     // The number of panel cells in one view.
@@ -64,6 +39,6 @@ impl Plan {
         ensures value { result ≡ panel_of (plan_of self.now) }
         ensures most { result ≤ 262144 }
     {
-        self.rows() * self.columns()
+        self.cells_along(ScanAxis::Row) * self.cells_along(ScanAxis::Column)
     }
 }

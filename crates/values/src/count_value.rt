@@ -1,49 +1,64 @@
-ghost use Rattle.std.specs.Prelude.{◌≡◌};
+ghost use Rattle.std.specs.Prelude.{◌≡◌, refl, Some};
+ghost use Rattle.std.specs.Fmt.{signed_decimal};
 ghost use Rattle.values.specs.Counts.{count_ops, shown, bits_of};
 ghost use Rattle.values.specs.CountLaws.{count_laws};
 
 use crate::count::Count;
 use crate::value::Value;
+use std::fmt;
 
-impl Count {
-    pub fn new(number: i64) -> Count
-        ensures { result.bits ≡ bits_of number }
-    {
+impl From<i64> for Count {
+    ghost from_gives = { λ number count. count.bits ≡ bits_of number };
+
+    fn from(number: i64) -> Count {
         Count {
             bits: number.cast_unsigned(),
         }
     }
+}
 
-    pub fn shown(self) -> i64
-        ensures { result ≡ shown self }
-    {
-        self.bits.cast_signed()
+impl From<Count> for i64 {
+    ghost from_gives = { λ count number. number ≡ shown count };
+
+    fn from(count: Count) -> i64 {
+        count.bits.cast_signed()
+    }
+}
+
+impl fmt::Display for Count {
+    ghost output = { λ count. Some (signed_decimal (shown count)) };
+
+    fn fmt<W: fmt::Write>(&self, f: &mut fmt::Formatter<W>) -> fmt::Result {
+        write!(f, "{}", i64::from(*self))
     }
 }
 
 impl Value for Count {
     const ZERO: Count = Count { bits: 0 };
 
+    ghost ZERO = { count_ops.zero };
+
     ghost ops = { count_ops };
+
+    ghost zero_named = { refl };
 
     ghost lawful = { count_laws };
 
-    fn neutral() -> Count {
-        Count::ZERO
-    }
-
+    #[tactic(auto, using(crate::specs::CountLaws::same))]
     fn plus(self, other: Count) -> Count {
         Count {
             bits: self.bits.wrapping_add(other.bits),
         }
     }
 
+    #[tactic(auto, using(crate::specs::CountLaws::same))]
     fn times(self, other: Count) -> Count {
         Count {
             bits: self.bits.wrapping_mul(other.bits),
         }
     }
 
+    #[tactic(auto, using(crate::specs::CountLaws::same))]
     fn multiple(self, n: u64) -> Count {
         Count {
             bits: self.bits.wrapping_mul(n),

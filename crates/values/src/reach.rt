@@ -1,3 +1,4 @@
+ghost use Rattle.std.specs.Prelude.{refl};
 ghost use Rattle.values.specs.Reaches.{reach_ops};
 ghost use Rattle.values.specs.ReachLaws.{reach_laws};
 
@@ -12,13 +13,13 @@ pub struct Reach {
 impl Value for Reach {
     const ZERO: Reach = Reach { yes: false };
 
+    ghost ZERO = { reach_ops.zero };
+
     ghost ops = { reach_ops };
 
-    ghost lawful = { reach_laws };
+    ghost zero_named = { refl };
 
-    fn neutral() -> Reach {
-        Reach::ZERO
-    }
+    ghost lawful = { reach_laws };
 
     fn plus(self, other: Reach) -> Reach {
         Reach {

@@ -28,8 +28,7 @@ pointed c =
 
 pub invariant_of-result : goal.invariant_of-result
 invariant_of-result c =
-    let p = points_steep _ _ _ _ c.args.step.below (pointed c) in
-    record { least = p.least; most = p.most; side = p.side }
+    record { steep = points_steep _ _ _ _ c.args.step.below (pointed c) }
 
 pub returns : goal.returns
 returns c = let p = pointed (goal.at.returns c).Joined-unsigned_abs in record { slabs = p.slabs_is; main = p.main_is; side = p.side_is }

@@ -1,12 +1,12 @@
-use Rattle.std.proofs.Common.{vec_items}
-use Rattle.scan.proofs.Reached.{kept}
+use Rattle.scan.proofs.Reached.{kept_near, kept_reaches}
 use Rattle.scan.proofs.draft.Draft.new.Goals as goal
 
-pub invariant_of-result : goal.invariant_of-result
-invariant_of-result g c =
+pub invariant_of-result-clause-near : goal.invariant_of-result-clause-near
+invariant_of-result-clause-near g c =
     let d = c.in_ok-distances.distances in
-    let k = kept d.source d.panel (g.X.Axis.edges c.args.x.now) (g.Y.Axis.edges c.args.y.now) (g.C.Axis.edges c.args.column.now)
-    c.in_ok-check_reach.ensures.0
-    (vec_items c.in_ok-x.x.edges) (vec_items c.in_ok-y.y.edges) (vec_items c.in_ok-column.column.edges)
-    c.in_ok-x.ensures c.in_ok-y.ensures c.in_ok-column.ensures in
-    record { near = k.0; reaches = k.1 }
+    kept_near d.source d.panel _ _ (g.C.Axis.edges c.args.column.now) c.in_ok-check_reach.ensures.0 c.in_ok-x.ensures c.in_ok-y.ensures
+
+pub invariant_of-result-clause-reaches : goal.invariant_of-result-clause-reaches
+invariant_of-result-clause-reaches g c =
+    let d = c.in_ok-distances.distances in
+    kept_reaches d.source d.panel (g.X.Axis.edges c.args.x.now) (g.Y.Axis.edges c.args.y.now) _ c.in_ok-check_reach.ensures.0 c.in_ok-column.ensures

@@ -1,28 +1,21 @@
-use Rattle.std.proofs.Common.{◌≡◌, ◌-◌, min, length, get_or, pos, nat_abs, sym, ap, ◌∙◌, arith, w32, w64, SFits, rules}
-use Rattle.std.proofs.lemmas.Int.{ints, to_z-of_z}
-use Rattle.scan.specs.Axes.{even_edges}
-use Rattle.scan.proofs.Propers.{even_length, even_edge_at}
+use Rattle.std.specs.Prelude.{◌≡◌}
+use Rattle.std.proofs.Common.{sym, ◌∙◌, w32, w64, SFits, rules}
+use Rattle.std.proofs.lemmas.Int.{to_z-of_z}
+use Rattle.scan.specs.Axes.{edge_of, even_edges}
+use Rattle.scan.proofs.Propers.{even_edge_of, edge_fits}
 use Rattle.scan.proofs.even.EvenAxisAxis.edge.Goals as goal
 
 pub overflow_cast-result : goal.overflow_cast-result
 overflow_cast-result c =
     let a = c.args.self.now.spaced in
-    let long = even_length a.first a.pitch a.cells in
-    let same = even_edge_at a.first a.pitch a.cells c.min.result (omega arith) in
-    let size = ap nat_abs (c.get.ensures ∙ sym same) in
-    let small = c.args.self.now.within c.min.result (omega arith) in
+    let same : c.get.result ≡ edge_of (even_edges a.first a.pitch a.cells) c.args.i = c.get.ensures ∙ sym (even_edge_of a.first a.pitch a.cells c.args.i c.min.result c.min.ensures) in
     let f : SFits w64 c.get.result = search rules in
-    simp to_z-of_z (omega (arith, ints))
+    simp to_z-of_z (edge_fits _ c.args.self.now.proper c.args.i c.get.result same)
 
 pub returns : goal.returns
 returns c =
     let a = c.args.self.now.spaced in
-    let es = even_edges a.first a.pitch a.cells in
-    let long = even_length a.first a.pitch a.cells in
-    let same = even_edge_at a.first a.pitch a.cells c.min.result (omega arith) in
-    let size = ap nat_abs (c.get.ensures ∙ sym same) in
-    let small = c.args.self.now.within c.min.result (omega arith) in
+    let same : c.get.result ≡ edge_of (even_edges a.first a.pitch a.cells) c.args.i = c.get.ensures ∙ sym (even_edge_of a.first a.pitch a.cells c.args.i c.min.result c.min.ensures) in
     let whole : SFits w64 c.get.result = search rules in
-    let half : SFits w32 c.get.result = omega (arith, ints) in
-    let place : c.min.result ≡ min c.args.i (length es - 1) = omega arith in
-    simp to_z-of_z (c.get.ensures ∙ sym same ∙ ap (λ k. get_or es k (pos 0)) place)
+    let half : SFits w32 c.get.result = edge_fits _ c.args.self.now.proper c.args.i c.get.result same in
+    simp to_z-of_z same

@@ -6,14 +6,11 @@ use Rattle.scan.specs.Fits.{number_at, fitted, landing_same, views_length}
 use Rattle.scan.specs.Landings.{lands}
 use Rattle.scan.proofs.plan.Plan.view.Goals as goal
 
-pub returns-then-view-len : goal.returns-then-view-len
+pub returns-then-view-views : goal.returns-then-view-views
 unfolding landing
-returns-then-view-len c =
-    let plan = c.args.self.now in
-    let long = views_length plan.views in
-    let step = number_at (vec_items plan.views) c.args.view c.index.result.now (omega (arith, plan.views.ok.0)) c.index.ensures in
+returns-then-view-views c =
+    let layout = c.args.self.now.layout in
+    let long = views_length layout.views in
+    let step = number_at (vec_items layout.views) c.args.view c.index.result.now (omega (arith, layout.views.ok.0)) c.index.ensures in
     let d = c.direction.ensures in
-    (omega arith, landing_same (plan_of plan) (d.slabs ∙ ap slab_axis step) (d.main ∙ ap main_of step) (d.side ∙ ap side_of step), lands (plan_of plan) (fitted plan) c.args.view)
-
-pub returns-else-view-len : goal.returns-else-view-len
-returns-else-view-len c = omega (arith, views_length c.args.self.now.views)
+    (omega arith, landing_same (plan_of c.args.self.now) (d.slabs ∙ ap slab_axis step) (d.main ∙ ap main_of step) (d.side ∙ ap side_of step), lands (plan_of c.args.self.now) (fitted layout) c.args.view)

@@ -1,6 +1,0 @@
-use mathlib.Core.Path.{refl}
-use Rattle.values.specs.CountLaws.{same}
-use Rattle.values.proofs.count_value.CountValue.neutral.Goals as goal
-
-pub returns : goal.returns
-returns c = same refl

@@ -1,7 +1,0 @@
-use mathlib.Core.Path.{refl}
-use Rattle.values.specs.CountLaws.{same}
-use Rattle.values.specs.PairLaws.{both}
-use Rattle.values.proofs.pair.PairValue.neutral.Goals as goal
-
-pub returns : goal.returns
-returns c = both (same refl) (same refl)
