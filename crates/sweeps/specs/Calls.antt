@@ -1,5 +1,5 @@
 -- What the calls on a sealed plan answer, and when they refuse.
-use Rattle.std.specs.Prelude.{ℕ, ◌+◌, cond, not, List, [], ◌∷◌, length, Some, None, Option, ◌==◌, nat_le}
+use Rattle.std.specs.Prelude.{ℕ, not, List, length, count_by, Some, None, Option, ◌==◌, nat_le}
 use Rattle.std.specs.Option.{option_or}
 use Rattle.scan.specs.Checks.{refused_where}
 use Rattle.scan.specs.Plans.{Scan, weight_of, voxels_of, panel_of}
@@ -27,5 +27,4 @@ unless_refused (Some refusal) new old = old
 
 -- How many values of a Reach store are yes.
 abbrev pub tallied : List Reach → ℕ
-tallied [] = 0
-tallied (r ∷ rs) = cond r.yes 1 0 + tallied rs
+tallied rs = count_by (λ r. r.yes) rs

@@ -1,5 +1,5 @@
 -- Forward and back projection, over any numbers of views, voxels and cells and any weights.
-use Rattle.std.specs.Prelude.{ℕ, ◌+◌, ◌-◌, ◌*◌, Bool, cond, ◌&&◌, List, nat_le, nat_lt}
+use Rattle.std.specs.Prelude.{ℕ, ◌+◌, ◌-◌, ◌*◌, Bool, if◌then◌else◌, ◌&&◌, List, nat_le, nat_lt}
 use Rattle.values.specs.Laws.{Ops}
 use Rattle.values.specs.Sums.{sum}
 use Rattle.sweeps.specs.Stores.{built, at}
@@ -23,9 +23,9 @@ mine s v i = nat_le (v * s.cells) i && nat_lt i (v * s.cells + s.cells)
 unfoldable pub forward : {V : Type 0} → Ops V → System → ℕ → V → List V → List V → List V
 forward o s v f volume working =
     built (places s) (λ i.
-    cond (mine s v i)
-    (o.plus (at o working i) (o.times f (sum o s.voxels (λ x. o.multiple (at o volume x) (s.weight v x (i - v * s.cells))))))
-    (at o working i))
+    if mine s v i
+    then o.plus (at o working i) (o.times f (sum o s.voxels (λ x. o.multiple (at o volume x) (s.weight v x (i - v * s.cells)))))
+    else at o working i)
 
 -- Back: each voxel gains f times the sum over the view's cells of the multiple of the value by the weight.
 unfoldable pub back : {V : Type 0} → Ops V → System → ℕ → V → List V → List V → List V

@@ -1,6 +1,8 @@
-ghost use Rattle.std.specs.Prelude.{◌≡◌, Some, Ok, Err};
+ghost use Rattle.std.specs.Prelude.{◌≡◌, ◌==◌, not, Some, Ok, Err};
+ghost use Rattle.scan.specs.Checks.{Verdict, refused_where};
 ghost use Rattle.scan.specs.Meanings.{plan_of};
 ghost use Rattle.scan.specs.Plans.{landing_of};
+ghost use Rattle.scan.specs.declared.refusal.Refusal.TheVariants.{StoreLength};
 ghost use Rattle.sweeps.specs.Calls.{system_of, call_check};
 ghost use Rattle.sweeps.specs.Passes.{Answered};
 
@@ -9,11 +11,26 @@ use scan::refusal::{Refusal, Store};
 use scan::view::View;
 
 // A view whose stores have the plan's lengths, and where its cells stand in the working store.
-#[derive(Drop)]
-pub(crate) struct Called<P> {
-    pub(crate) landed: View<P>,
+#[derive(Clone, Copy)]
+pub(crate) struct Called<'a> {
+    pub(crate) landed: View<'a>,
     pub(crate) start: usize,
     pub(crate) cells: usize,
+}
+
+// Refuses a store of another length than the plan asks for (23).
+fn check_length(store: Store, found: usize, wanted: usize) -> Result<(), Refusal>
+    ensures { Verdict (refused_where (not (found == wanted)) (StoreLength store found wanted)) (λ _. Unit {0}) result }
+{
+    if found == wanted {
+        Ok(())
+    } else {
+        Err(Refusal::StoreLength {
+            store,
+            found,
+            wanted,
+        })
+    }
 }
 
 // All checks stand before the first write, so a refusal alters nothing.
@@ -22,32 +39,14 @@ pub(crate) fn checked(
     view: usize,
     volume: usize,
     working: usize,
-) -> Result<Called<&Plan>, Refusal>
+) -> Result<Called<'_>, Refusal>
     ensures { elim result [ Ok w ↦ Answered (plan_of plan.now) view volume working w.start w.cells (landing_of (plan_of w.landed.plan.now) w.landed.direction.slabs w.landed.direction.a w.landed.direction.b) | Err e ↦ call_check (system_of (plan_of plan.now)) view volume working ≡ Some e ] }
 {
-    let Some(landed) = plan.view(view) else {
-        return Err(Refusal::NoView {
-            view,
-            views: plan.views(),
-        });
-    };
-    let voxels = plan.voxels();
-    if volume != voxels {
-        return Err(Refusal::StoreLength {
-            store: Store::Volume,
-            found: volume,
-            wanted: voxels,
-        });
-    }
+    let views = plan.views();
+    let landed = plan.view(view).ok_or(Refusal::NoView { view, views })?;
     let cells = plan.cells();
-    let places = plan.views() * cells;
-    if working != places {
-        return Err(Refusal::StoreLength {
-            store: Store::Working,
-            found: working,
-            wanted: places,
-        });
-    }
+    check_length(Store::Volume, volume, plan.voxels())?;
+    check_length(Store::Working, working, views * cells)?;
     Ok(Called {
         landed,
         start: view * cells,

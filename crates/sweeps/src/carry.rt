@@ -21,7 +21,7 @@ impl Strip<'_> {
         requires { Inside self (length from.now) }
         ensures { result ≡ sum V.Value.ops (length from.now) (λ q. V.Value.ops.multiple (at V.Value.ops from.now q) (strip_share self.entry q)) }
     {
-        let mut sum = V::neutral();
+        let mut sum = V::ZERO;
         for cell in self.first..self.last {
             sum = sum.plus(from[self.start + cell * self.stride].multiple(self.share(cell)));
         }

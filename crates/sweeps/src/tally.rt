@@ -7,11 +7,5 @@ use values::reach::Reach;
 pub fn tally(store: &[Reach]) -> usize
     ensures { result ≡ tallied store.now }
 {
-    let mut count = 0;
-    for value in store {
-        if value.yes {
-            count += 1;
-        }
-    }
-    count
+    store.iter().filter(|value| value.yes).count()
 }
