@@ -1,8 +1,7 @@
 -- The first number at which a test holds. Assumes nothing.
 use Rattle.std.specs.Prelude.{◌≡◌, ℕ, zero, suc, ◌+◌, ◌<◌, ◌≤◌, Bool, false, None}
 use Rattle.std.specs.List.{find, range_with_len}
-use Rattle.std.proofs.Common.{arith, ⊎_elim}
-use Rattle.std.proofs.lemmas.Bool.{cases_lt}
+use Rattle.std.proofs.Common.{arith}
 use Rattle.scan.specs.Checks.{first_where}
 
 -- there is none where the test fails of every number

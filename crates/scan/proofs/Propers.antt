@@ -1,10 +1,9 @@
 -- Edges that pass every check are those of an axis. Assumes nothing.
-use Rattle.std.specs.Prelude.{◌≡◌, ℕ, ◌+◌, ◌-◌, ◌<◌, ◌≤◌, min, Bool, false, List, length, ℤ, pos, ◌<ℤ◌, Some, None, Option, int_le, nat_lt, slice_index_or, unsigned_abs, refl}
+use Rattle.std.specs.Prelude.{◌≡◌, ℕ, ◌+◌, ◌-◌, ◌<◌, ◌≤◌, min, Bool, List, length, ℤ, pos, None, int_le, nat_lt, slice_index_or, unsigned_abs, refl}
 use Rattle.std.proofs.Common.{ap, arith, w32, SFits}
 use Rattle.std.proofs.lemmas.Int.{ints}
-use Rattle.std.proofs.lemmas.Bool.{ltb-false, or_parts}
+use Rattle.std.proofs.lemmas.Bool.{ltb-false}
 use Rattle.std.proofs.lemmas.List.FromFn.{length-map-range_with_len, get_or-map-range_with_len}
-use Rattle.std.specs.Option.{option_or, option_map}
 use Rattle.scan.specs.Axes.{Proper, Rises, Within, edge_of, even_edge, even_edges}
 use Rattle.scan.specs.Checks.{first_outside, first_not_rising, edges_check, count_check}
 use Rattle.scan.specs.Numbered.{edge_within}

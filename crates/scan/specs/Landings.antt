@@ -2,12 +2,12 @@
 use Rattle.std.specs.Prelude.{ℕ, zero, suc, ◌+◌, ◌-◌, ◌*◌, ◌/◌, ◌%◌, ◌^◌, ◌<◌, ◌≤◌, min, max, List, [], ◌∷◌, length, ℤ, pos, ◌*ℤ◌, ◌≤ℤ◌, ◌<ℤ◌, fold, slice_index_or, unsigned_abs}
 use Rattle.std.proofs.Common.{inl, inr, arith}
 use Rattle.std.proofs.Math.Nat.{mul-le-mul}
-use Rattle.std.proofs.lemmas.Int.{ints, by_lt_z}
+use Rattle.std.proofs.lemmas.Int.{ints, by_lt_z, unsigned_abs-mul}
 use Rattle.geometry.specs.declared.direction.SlabAxis.{SlabAxis}
 use Rattle.geometry.specs.declared.direction.SlabAxis.TheVariants.{X, Y}
 use Rattle.geometry.specs.Landed.{slab_sum}
 use Rattle.geometry.specs.Turn.{slab_axis, main_of, side_of}
-use Rattle.geometry.proofs.Size.{abs_times, abs_plus, abs_minus}
+use Rattle.geometry.proofs.Size.{abs_plus, abs_minus}
 use Rattle.geometry.proofs.Table.{all_steep}
 use Rattle.geometry.proofs.Divisors.{depth_beside, slant_beside}
 use Rattle.geometry.proofs.OneWay.{cross_rises, height_rises, row_rises, column_rises, column_falls}
@@ -87,7 +87,7 @@ module _ (scan : Scan) (fitted : Fitted scan) (along : SlabAxis) (a b : ℤ) (st
       let r = reached k in
       let low = low_of scan.column k in
       let high = high_of scan.column k in
-      let size = abs_times (pos 2) scan.panel in
+      let size = unsigned_abs-mul (pos 2) scan.panel in
       record {
         some = omega (arith, ints, r.some);
         most = omega (arith, r.some, fitted.panel_most, fitted.panel_least, fitted.source_least, ints);

@@ -43,12 +43,12 @@ fn first_not_rising<E: Edges>(edges: &E, cells: usize) -> Option<usize>
     ensures value { result ≡ first_not_rising cells (E.at edges.now) }
     ensures within { IfSome result (λ i. i < cells) }
 {
-    (0..cells).find(|&i|
-        requires cell { i + 1 < E.count edges.now }
-        requires size { i + 1 < 2 ^ 64 }
-    {
-        edges.get(i + 1) <= edges.get(i)
-    })
+    (0..cells).find(
+        |&i|
+            requires cell { i + 1 < E.count edges.now }
+            requires size { i + 1 < 2 ^ 64 }
+        { edges.get(i + 1) <= edges.get(i) },
+    )
 }
 
 // Refuses edges that lie out of range (5), and then those that do not rise (4).

@@ -122,6 +122,7 @@ impl Landed for View<'_> {
 
     fn row_edge(&self, column: usize, m: usize) -> i64 {
         let column = self.plan.layout.column.cell_at(column);
-        self.pose().row_edge(column, self.plan.layout.row.edge_at(m))
+        self.pose()
+            .row_edge(column, self.plan.layout.row.edge_at(m))
     }
 }

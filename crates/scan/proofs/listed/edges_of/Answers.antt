@@ -11,4 +11,4 @@ returns g c =
     let proper = g.met.A.Axis.proper c.args.axis.now in
     let all : c.cells.result + 1 ≡ length es = omega arith in
     rw (by_number es) (items_from_collect _ c.collect.ensures.ran
-        (YieldsList-from_map _ (edge_of es) (YieldsList-from_range 0 (c.cells.result + 1) (length es) (cc) (omega arith)) c.map.ensures.closure (λ x r q k. search rules)))
+    (YieldsList-from_map _ (edge_of es) (YieldsList-from_range 0 (c.cells.result + 1) (length es) (cc) (omega arith)) c.map.ensures.closure (λ x r q k. search rules)))
