@@ -73,23 +73,16 @@ overlap_low x0 x1 lo hi p q h = omega (arith, ints, clamps, or_zero_is)
 pub overlap_high : (x0 x1 lo hi : ℤ) → x0 ≤ℤ x1 → lo ≤ℤ hi → hi ≤ℤ x0 → overlap x0 x1 lo hi ≡ 0
 overlap_high x0 x1 lo hi p q h = omega (arith, ints, clamps, or_zero_is)
 
-max_comm : (x y : ℤ) → int_max x y ≡ int_max y x
-max_comm x y = omega (arith, ints, clamps)
-
-min_comm : (x y : ℤ) → int_min x y ≡ int_min y x
-min_comm x y = omega (arith, ints, clamps)
-
-pub overlap_swap : (a0 a1 b0 b1 : ℤ) → overlap a0 a1 b0 b1 ≡ overlap a0 a1 b1 b0
-overlap_swap a0 a1 b0 b1 =
-    ap (λ z. or_zero (int_min (int_max a0 a1) z -ℤ int_max (int_min a0 a1) (int_min b0 b1))) (max_comm b0 b1)
-    ∙ ap (λ z. or_zero (int_min (int_max a0 a1) (int_max b1 b0) -ℤ int_max (int_min a0 a1) z)) (min_comm b0 b1)
-
 -- a stretch with its lower end first is the same stretch
 pub overlap_sorted : (a0 a1 b0 b1 : ℤ) → overlap a0 a1 (int_min b0 b1) (int_max b0 b1) ≡ overlap a0 a1 b0 b1
 overlap_sorted a0 a1 b0 b1 = omega (arith, ints, clamps, or_zero_is)
 
 pub overlap_sym : (a0 a1 b0 b1 : ℤ) → overlap a0 a1 b0 b1 ≡ overlap b0 b1 a0 a1
 overlap_sym a0 a1 b0 b1 = omega (arith, ints, clamps, or_zero_is)
+
+-- stretches with their lower ends first overlap as the same stretches with their ends in either order
+pub overlap_between : (a0 a1 b0 b1 : ℤ) → overlap (int_min a0 a1) (int_max a0 a1) (int_min b0 b1) (int_max b0 b1) ≡ overlap a0 a1 b0 b1
+overlap_between a0 a1 b0 b1 = overlap_sorted (int_min a0 a1) (int_max a0 a1) b0 b1 ∙ overlap_sym (int_min a0 a1) (int_max a0 a1) b0 b1 ∙ overlap_sorted b0 b1 a0 a1 ∙ overlap_sym b0 b1 a0 a1
 
 pub overlap_most : (u0 u1 s0 s1 : ℤ) → overlap u0 u1 s0 s1 ≤ nat_abs (u1 -ℤ u0)
 overlap_most u0 u1 s0 s1 = omega (arith, ints, clamps, or_zero_is)
