@@ -6,8 +6,7 @@ use Rattle.sweeps.proofs.backprojection.back.Goals as goal
 pub sweep-requires : goal.sweep-requires
 sweep-requires g c =
     let a = c.args in
-    let x = c.in_ok-call.ensures in
-    (
+    let x = c.in_ok-call.ensures in (
       part_sized g.met.V.Value.lawful (plan_of a.plan.now) a.view a.factor a.volume.now a.working.now _ _ _ x,
       volume_sized g.met.V.Value.lawful (plan_of a.plan.now) a.view a.factor a.volume.now a.working.now _ _ _ x,
     )

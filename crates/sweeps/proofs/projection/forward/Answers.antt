@@ -13,8 +13,7 @@ offset_bounds-working-call g c =
 pub sweep-requires : goal.sweep-requires
 sweep-requires g c =
     let a = c.args in
-    let x = c.in_ok-call.ensures in
-    (
+    let x = c.in_ok-call.ensures in (
       volume_sized g.met.V.Value.lawful (plan_of a.plan.now) a.view a.factor a.volume.now a.working.now _ _ _ x,
       part_sized g.met.V.Value.lawful (plan_of a.plan.now) a.view a.factor a.volume.now a.working.now _ _ _ x,
     )
