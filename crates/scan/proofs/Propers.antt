@@ -1,8 +1,7 @@
 -- Edges that pass every check are those of an axis. Assumes nothing.
 use Rattle.std.specs.Prelude.{◌≡◌, ℕ, ◌+◌, ◌-◌, ◌<◌, ◌≤◌, min, Bool, List, length, ℤ, pos, None, int_le, nat_lt, slice_index_or, unsigned_abs, refl}
-use Rattle.std.proofs.Common.{ap, arith, w32, SFits}
+use Rattle.std.proofs.Common.{sym, ap, ◌∙◌, arith, w32, SFits}
 use Rattle.std.proofs.lemmas.Int.{ints}
-use Rattle.std.proofs.lemmas.Bool.{ltb-false}
 use Rattle.std.proofs.lemmas.List.FromFn.{length-map-range_with_len, get_or-map-range_with_len}
 use Rattle.scan.specs.Axes.{Proper, Rises, Within, edge_of, even_edge, even_edges}
 use Rattle.scan.specs.Checks.{first_outside, first_not_rising, edges_check, count_check}
@@ -16,7 +15,8 @@ module _ (n : ℕ) (edge : ℕ → ℤ) (es : List ℤ) (long : length es ≡ n)
       let here : i < n = omega arith in
       let test : ℕ → Bool = λ k. nat_lt 4194304 (unsigned_abs (edge k)) in
       let none : first_outside 4194304 n edge ≡ None = grind arith in
-      rw (same i here) (ltb-false 4194304 (unsigned_abs (edge i)) (first_none test n none i here))
+      let inside = first_none test n none i here in
+      rw (same i here) (grind arith)
 
   rises : Rises es
   rises i l =
@@ -41,11 +41,11 @@ count_within : (found least most : ℕ) → count_check found least most ≡ Non
 count_within found least most e = (grind arith, grind arith)
 
 -- an edge of an even axis, where a number past the last stands for the last
-pub even_edge_of : (first pitch : ℤ) (n i k : ℕ) → k ≡ min i n → edge_of (even_edges first pitch n) i ≡ even_edge first pitch k
-even_edge_of first pitch n i k e =
+pub even_edge_of : (first pitch : ℤ) (n i k : ℕ) (z : ℤ) → k ≡ min i n → z ≡ even_edge first pitch k → z ≡ edge_of (even_edges first pitch n) i
+even_edge_of first pitch n i k z e f =
     let long = even_length first pitch n in
     let place : min i (length (even_edges first pitch n) - 1) ≡ k = omega arith in
-    rw place (even_edge_at first pitch n k (omega arith))
+    rw place (f ∙ sym (even_edge_at first pitch n k (omega arith)))
 
 -- an edge of an axis fits 32 bits
 pub edge_fits : (es : List ℤ) → Proper es → (i : ℕ) (z : ℤ) → z ≡ edge_of es i → SFits w32 z

@@ -1,7 +1,6 @@
 -- What a layout keeps follows from its checks. Assumes nothing.
 use Rattle.std.specs.Prelude.{◌≡◌, ℕ, Bool, List, length, ℤ, None, nat_le, unsigned_abs}
 use Rattle.std.proofs.Common.{sym, arith}
-use Rattle.std.proofs.lemmas.Bool.{leb-false}
 use Rattle.scan.specs.Axes.{edge_of}
 use Rattle.scan.specs.Plans.{first_beyond, reach_check, Near, Reaches}
 use Rattle.scan.proofs.Firsts.{first_none}
@@ -16,7 +15,8 @@ module _ (source panel : ℤ) (x y column : List ℤ) (passed : reach_check sour
   reaches i l =
       let test : ℕ → Bool = λ k. nat_le (unsigned_abs panel) (unsigned_abs (edge_of column k)) in
       let none : first_beyond (unsigned_abs panel) column ≡ None = grind arith in
-      rw (sym (edge_at column i l)) (leb-false (unsigned_abs panel) (unsigned_abs (edge_of column i)) (first_none test (length column) none i l))
+      let nearer = first_none test (length column) none i l in
+      rw (sym (edge_at column i l)) (grind arith)
 
   pub kept_reaches : {vc : List ℤ} → vc ≡ column → Reaches panel vc
   kept_reaches ec = rw ec reaches

@@ -1,5 +1,16 @@
 // A scan to which views can still be added.
+ghost use Rattle.std.specs.Prelude.{◌≡◌, length, Ok, Err, unsigned_abs};
+ghost use Rattle.scan.specs.Checks.{Outcome};
+ghost use Rattle.scan.specs.Plans.{draft_check, view_check, unviewed, with_view, Fitted};
+ghost use Rattle.scan.specs.Meanings.{draft_of, plan_of};
+
+use crate::axis::Axis;
+use crate::draft_checks::{check_reach, check_view, distances_of};
+use crate::failure::Failure;
 use crate::layout::Layout;
+use crate::listed::ListedAxis;
+use crate::plan::Plan;
+use std::alloc::Global;
 
 // How many views a draft may have.
 pub const MOST_VIEWS: usize = 1024;
@@ -7,4 +18,68 @@ pub const MOST_VIEWS: usize = 1024;
 #[derive(Drop)]
 pub struct Draft {
     pub(crate) layout: Layout,
+}
+
+impl Draft {
+    // A draft with no views: how far the source and the panel stand, and the axes of the volume and of the panel.
+    // Checks 6 for D, 6 for F, 7, 8.
+    pub fn new<X: Axis, Y: Axis, Z: Axis, C: Axis, R: Axis>(
+        heap: Global,
+        source: i32,
+        panel: i32,
+        x: &X,
+        y: &Y,
+        z: &Z,
+        column: &C,
+        row: &R,
+    ) -> Result<Draft, Failure>
+        ensures { Outcome (draft_check source panel (X.Axis.edges x.now) (Y.Axis.edges y.now) (C.Axis.edges column.now)) (λ d. draft_of d ≡ unviewed source panel (X.Axis.edges x.now) (Y.Axis.edges y.now) (Z.Axis.edges z.now) (C.Axis.edges column.now) (R.Axis.edges row.now)) result }
+    {
+        let distances = distances_of(source, panel)?;
+        check_reach(distances, x, y, column)?;
+        let x = ListedAxis::copy_of(heap, x)?;
+        let y = ListedAxis::copy_of(heap, y)?;
+        let z = ListedAxis::copy_of(heap, z)?;
+        let column = ListedAxis::copy_of(heap, column)?;
+        let row = ListedAxis::copy_of(heap, row)?;
+        Ok(Draft {
+            layout: Layout {
+                distances,
+                x,
+                y,
+                z,
+                column,
+                row,
+                views: Vec::new(heap),
+            },
+        })
+    }
+
+    // Adds a view from a step of the turn, and says its number. Checks 9, 21.
+    pub fn add_view(&mut self, step: i32) -> Result<usize, Failure>
+        ensures value { Outcome (view_check (length (draft_of self.old).steps) step) (λ n. n ≡ length (draft_of self.old).steps) result }
+        ensures after { draft_of self.new ≡ elim result [ Ok n ↦ with_view (draft_of self.old) (unsigned_abs step) | Err e ↦ draft_of self.old ] }
+    {
+        let views = self.layout.views();
+        let step = check_view(views, step)?;
+        self.layout.views.push(step)?;
+        Ok(views)
+    }
+
+    // The number of views so far.
+    pub fn views(&self) -> usize
+        ensures { result ≡ length (draft_of self.now).steps }
+    {
+        self.layout.views()
+    }
+
+    // The plan of the scan as it stands.
+    pub fn seal(self) -> Plan
+        ensures holds { plan_of result ≡ draft_of self }
+        ensures fitted { Fitted (plan_of result) }
+    {
+        Plan {
+            layout: self.layout,
+        }
+    }
 }

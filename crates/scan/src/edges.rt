@@ -22,10 +22,10 @@ pub(crate) trait Edges {
 pub(crate) fn check_count(found: usize, least: usize, most: usize) -> Result<(), Refusal>
     ensures { Verdict (count_check found least most) (λ _. Unit {0}) result }
 {
-    if found < least || most < found {
-        Err(Refusal::Count { found, least, most })
-    } else {
+    if (least..=most).contains(&found) {
         Ok(())
+    } else {
+        Err(Refusal::Count { found, least, most })
     }
 }
 

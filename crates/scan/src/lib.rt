@@ -3,7 +3,7 @@
 
 pub mod axis;
 pub mod draft;
-mod drafting;
+mod draft_checks;
 mod edges;
 pub mod even;
 pub mod failure;
@@ -14,5 +14,4 @@ pub mod listed;
 pub mod plan;
 pub mod refusal;
 pub mod scan_axis;
-mod sealed;
 pub mod view;

@@ -1,7 +1,49 @@
 // A sealed scan, which never changes.
+ghost use Rattle.std.specs.Prelude.{◌≡◌, ◌≤◌, length};
+ghost use Rattle.scan.specs.Axes.{cells_of};
+ghost use Rattle.scan.specs.Plans.{edges_along, voxels_of, panel_of};
+ghost use Rattle.scan.specs.Meanings.{plan_of};
+
+use crate::axis::Axis;
 use crate::layout::Layout;
+use crate::scan_axis::ScanAxis;
 
 #[derive(Drop)]
 pub struct Plan {
     pub(crate) layout: Layout,
+}
+
+impl Plan {
+    pub fn views(&self) -> usize
+        ensures value { result ≡ length (plan_of self.now).steps }
+        ensures most { result ≤ 1024 }
+    {
+        self.layout.views()
+    }
+
+    // The number of cells of an axis.
+    pub fn cells_along(&self, axis: ScanAxis) -> usize
+        ensures value { result ≡ cells_of (edges_along (plan_of self.now) axis) }
+        ensures most { result ≤ 512 }
+    {
+        self.layout.axis(axis).cells()
+    }
+
+    // The number of voxels of the volume.
+    pub fn voxels(&self) -> usize
+        ensures value { result ≡ voxels_of (plan_of self.now) }
+        ensures most { result ≤ 134217728 }
+    {
+        self.cells_along(ScanAxis::Z)
+            * self.cells_along(ScanAxis::Y)
+            * self.cells_along(ScanAxis::X)
+    }
+
+    // The number of panel cells in one view.
+    pub fn cells(&self) -> usize
+        ensures value { result ≡ panel_of (plan_of self.now) }
+        ensures most { result ≤ 262144 }
+    {
+        self.cells_along(ScanAxis::Row) * self.cells_along(ScanAxis::Column)
+    }
 }

@@ -1,0 +1,79 @@
+// The checks that a draft and its views pass.
+ghost use Rattle.std.specs.Prelude.{◌≡◌, unsigned_abs};
+ghost use Rattle.scan.specs.Checks.{Verdict};
+ghost use Rattle.scan.specs.Plans.{greatest, first_beyond, distances_check, reach_check, view_check};
+
+use crate::axis::Axis;
+use crate::draft::MOST_VIEWS;
+use crate::refusal::Refusal;
+use geometry::distances::{Distances, FARTHEST_PANEL, FARTHEST_SOURCE};
+use geometry::step::Step;
+
+// Refuses D, from the source to the rotation axis, out of its range (6), and then F, from the source to the panel (6).
+pub(crate) fn distances_of(source: i32, panel: i32) -> Result<Distances, Refusal>
+    ensures { Verdict (distances_check source panel) (λ d. (d.source ≡ source) × (d.panel ≡ panel)) result }
+{
+    let source = i64::from(source);
+    let panel = i64::from(panel);
+    if !(1..=FARTHEST_SOURCE).contains(&source) {
+        return Err(Refusal::SourceDistance { at: source });
+    }
+    if !(source..=FARTHEST_PANEL).contains(&panel) {
+        return Err(Refusal::PanelDistance { at: panel, source });
+    }
+    Ok(Distances { source, panel })
+}
+
+// How far the farthest edge of an axis lies from 0.
+fn farthest<A: Axis>(axis: &A) -> u32
+    ensures { result ≡ greatest (A.edges axis.now) }
+{
+    (0..axis.cells() + 1)
+        .map(|i| axis.edge(i).unsigned_abs())
+        .max()
+        .unwrap_or(0)
+}
+
+// The first edge of an axis that lies as far from 0 as the limit, or farther.
+fn first_beyond<A: Axis>(axis: &A, limit: u64) -> Option<usize>
+    ensures { result ≡ first_beyond limit (A.edges axis.now) }
+{
+    (0..axis.cells() + 1).find(|&i| limit <= u64::from(axis.edge(i).unsigned_abs()))
+}
+
+// Refuses a source too near the volume (7), and then a column edge as far from 0 as F, or farther (8).
+pub(crate) fn check_reach<X: Axis, Y: Axis, C: Axis>(
+    distances: Distances,
+    x: &X,
+    y: &Y,
+    column: &C,
+) -> Result<(), Refusal>
+    ensures { Verdict (reach_check distances.source distances.panel (X.Axis.edges x.now) (Y.Axis.edges y.now) (C.Axis.edges column.now)) (λ _. Unit {0}) result }
+{
+    let widest = farthest(x).max(farthest(y));
+    if distances.source.unsigned_abs() <= 2 * u64::from(widest) {
+        return Err(Refusal::SourceTooNear {
+            source: distances.source,
+            widest: i64::from(widest),
+        });
+    }
+    if let Some(edge) = first_beyond(column, distances.panel.unsigned_abs()) {
+        return Err(Refusal::ColumnBeyond {
+            edge,
+            at: i64::from(column.edge(edge)),
+            panel: distances.panel,
+        });
+    }
+    Ok(())
+}
+
+// Refuses a step that there is not (9), and then a view more than a draft may have (21).
+pub(crate) fn check_view(views: usize, step: i32) -> Result<Step, Refusal>
+    ensures { Verdict (view_check views step) (λ s. s.number ≡ unsigned_abs step) result }
+{
+    let step = Step::try_from(step)?;
+    if MOST_VIEWS <= views {
+        return Err(Refusal::DraftFull { views });
+    }
+    Ok(step)
+}
