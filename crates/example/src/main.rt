@@ -8,8 +8,7 @@ use scan::listed::ListedAxis;
 use scan::plan::Plan;
 use scan::scan_axis::ScanAxis;
 use std::alloc::Global;
-use std::fmt;
-use std::io;
+use std::{fmt, io};
 use sweeps::backprojection::back;
 use sweeps::projection::forward;
 use sweeps::tally::tally;
@@ -74,7 +73,7 @@ fn at<T: Drop>(what: &'static str, made: Result<T, Failure>) -> Result<T, Stop> 
     made.map_err(|failure| Stop { what, failure })
 }
 
-// A plan, and what is seen of it.
+// A plan, its shadow, and how many voxels are hit.
 #[derive(Drop)]
 struct Outcome {
     plan: Plan,
@@ -103,10 +102,15 @@ fn print_cells(rt: &impl Print, plan: &Plan, cells: &[Count]) -> io::Result<()> 
 }
 
 fn print_panel(rt: &impl Print, plan: &Plan, view: usize, panel: &[Count]) -> io::Result<()> {
-    for (row, line) in panel.chunks(plan.cells_along(ScanAxis::Column)).enumerate() {
-        for (column, cell) in line.iter().enumerate() {
-            println!(rt; "{view} {row} {column} {cell}")?;
-        }
+    for (row, cells) in panel.chunks(plan.cells_along(ScanAxis::Column)).enumerate() {
+        print_row(rt, view, row, cells)?;
+    }
+    Ok(())
+}
+
+fn print_row(rt: &impl Print, view: usize, row: usize, cells: &[Count]) -> io::Result<()> {
+    for (column, cell) in cells.iter().enumerate() {
+        println!(rt; "{view} {row} {column} {cell}")?;
     }
     Ok(())
 }

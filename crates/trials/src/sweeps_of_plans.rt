@@ -45,14 +45,18 @@ fn uneven_before<C: Axis>(heap: Global, column: &C, steps: &[i32]) -> Result<Pla
     viewed(draft, steps)
 }
 
-// The same before three columns of uneven widths, seen from steps 5 and 20.
+// The same voxels and rows, with three columns of uneven widths, seen from steps 5 and 20.
 fn uneven(heap: Global) -> Result<Plan, Failure> {
     let column = ListedAxis::new(heap, &[-200, -50, 60, 200])?;
     uneven_before(heap, &column, &[5, 20])
 }
 
 // What a function makes of each item.
-fn mapped<T: Copy, U: Drop, F: Fn(T) -> U>(heap: Global, items: &[T], f: F) -> Result<Vec<U>, AllocError>
+fn mapped<T: Copy, U: Drop, F: Fn(T) -> U>(
+    heap: Global,
+    items: &[T],
+    f: F,
+) -> Result<Vec<U>, AllocError>
     requires { F.IsAlwaysCallable f }
 {
     items.iter().map(|&item| f(item)).collect(heap)
@@ -71,11 +75,11 @@ fn worked_plan(rt: HostRuntime) -> Result<(), Fail> {
     let heap = rt.alloc();
     let plan = small(heap, &[0, 16])?;
     let ones = counts(heap, &[1, 1, 1, 1])?;
-    let mut working = counts(heap, &[0, 0, 0, 0])?;
+    let mut working = vec![in heap; Count::ZERO; 4]?;
     forward(&plan, 0, Count::from(1), &ones, &mut working)?;
     forward(&plan, 1, Count::from(1), &ones, &mut working)?;
     assert_eq!(rt; shown(heap, &working)?, worked_cells().to_vec(heap)?);
-    let mut volume = counts(heap, &[0, 0, 0, 0])?;
+    let mut volume = vec![in heap; Count::ZERO; 4]?;
     back(&plan, 0, Count::from(1), &mut volume, &ones)?;
     assert_eq!(rt;
         shown(heap, &volume)?,
@@ -143,7 +147,7 @@ fn uneven_cells(rt: HostRuntime) -> Result<(), Fail> {
     let heap = rt.alloc();
     let plan = uneven(heap)?;
     let volume = counts(heap, &[1, 2, 5, 10, 17, 26, 37, 50, 65, 82, 101, 122])?;
-    let mut working = counts(heap, &[0, 0, 0, 0, 0, 0, 0, 0, 0, 0, 0, 0])?;
+    let mut working = vec![in heap; Count::ZERO; 12]?;
     forward(&plan, 1, Count::from(-1), &volume, &mut working)?;
     assert_eq!(rt;
         shown(heap, &working)?,
@@ -274,7 +278,9 @@ fn many_columns(rt: HostRuntime) -> Result<(), Fail> {
 fn many_columns_back(rt: HostRuntime) -> Result<(), Fail> {
     let heap = rt.alloc();
     let plan = uneven_before(heap, &EvenAxis::new(-180, 20, 18)?, &[40])?;
-    let cells: Vec<Count> = (1..37).map(|number: i64| Count::from(number)).collect(heap)?;
+    let cells: Vec<Count> = (1..37)
+        .map(|number: i64| Count::from(number))
+        .collect(heap)?;
     let mut volume = vec![in heap; Count::ZERO; 12]?;
     back(&plan, 0, Count::from(2), &mut volume, &cells)?;
     let expected = [

@@ -1,4 +1,5 @@
-// What is printed of counts, refusals and failures, and how counts convert.
+// What is printed of counts, refusals, failures and steps that there are not, and how counts convert.
+use geometry::no_step::NoStep;
 use scan::failure::Failure;
 use scan::refusal::{Refusal, Store};
 use std::alloc::AllocError;
@@ -6,7 +7,7 @@ use std::test::Fail;
 use values::count::Count;
 
 // The least and the greatest number that a Count is shown as.
-const ENDS: [i64; 2] = [-9_223_372_036_854_775_808, 9_223_372_036_854_775_807];
+const ENDS: [i64; 2] = [i64::MIN, i64::MAX];
 
 #[test]
 fn counts_to_numbers_and_back(rt: HostRuntime) {
@@ -48,7 +49,7 @@ fn texts_of_counts(rt: HostRuntime) -> Result<(), Fail> {
 }
 
 #[test]
-fn texts_of_refusals(rt: HostRuntime) -> Result<(), Fail> {
+fn texts_of_refused_axes(rt: HostRuntime) -> Result<(), Fail> {
     let heap = rt.alloc();
     for (refusal, text) in [
         (
@@ -74,6 +75,16 @@ fn texts_of_refusals(rt: HostRuntime) -> Result<(), Fail> {
             },
             "refused by 5 at place 512",
         ),
+    ] {
+        assert_eq!(rt; refusal.to_string(heap)?.as_str(), text);
+    }
+    Ok(())
+}
+
+#[test]
+fn texts_of_refused_drafts(rt: HostRuntime) -> Result<(), Fail> {
+    let heap = rt.alloc();
+    for (refusal, text) in [
         (Refusal::SourceDistance { at: 0 }, "refused by 6 at place 0"),
         (
             Refusal::PanelDistance {
@@ -97,6 +108,16 @@ fn texts_of_refusals(rt: HostRuntime) -> Result<(), Fail> {
             },
             "refused by 8 at place 2",
         ),
+    ] {
+        assert_eq!(rt; refusal.to_string(heap)?.as_str(), text);
+    }
+    Ok(())
+}
+
+#[test]
+fn texts_of_refused_calls(rt: HostRuntime) -> Result<(), Fail> {
+    let heap = rt.alloc();
+    for (refusal, text) in [
         (
             Refusal::StepOutOfRange { step: 64 },
             "refused by 9 at place 0",
@@ -130,8 +151,23 @@ fn texts_of_failures(rt: HostRuntime) -> Result<(), Fail> {
         at: 999,
         source: 1000,
     });
-    assert_eq!(rt; refused.to_string(heap)?.as_str(), "refused by 6 at place 1");
+    assert_eq!(rt;
+        refused.to_string(heap)?.as_str(),
+        "refused by 6 at place 1"
+    );
     let memory = Failure::from(AllocError);
     assert_eq!(rt; memory.to_string(heap)?.as_str(), "there is no memory");
+    Ok(())
+}
+
+#[test]
+fn texts_of_no_steps(rt: HostRuntime) -> Result<(), Fail> {
+    let heap = rt.alloc();
+    for (number, text) in [
+        (64, "no step of the turn has the number 64"),
+        (-1, "no step of the turn has the number -1"),
+    ] {
+        assert_eq!(rt; NoStep { number }.to_string(heap)?.as_str(), text);
+    }
     Ok(())
 }
