@@ -10,21 +10,16 @@ pub or_zero_is : (z : ℤ) → or_zero z ≡ up z - down z
 or_zero_is (pos n) = omega arith
 or_zero_is (negsuc n) = omega arith
 
+-- the lower of the upper ends less the higher of the lower ends
+abbrev shared : ℤ → ℤ → ℤ → ℤ → ℤ
+shared a0 a1 b0 b1 = int_min (int_max a0 a1) (int_max b0 b1) -ℤ int_max (int_min a0 a1) (int_min b0 b1)
+
+overlap_is : (a0 a1 b0 b1 : ℤ) → overlap a0 a1 b0 b1 ≡ up (shared a0 a1 b0 b1) - down (shared a0 a1 b0 b1)
+overlap_is a0 a1 b0 b1 = or_zero_is (shared a0 a1 b0 b1)
+
 -- z, kept between l and h
 abbrev pub clip : ℤ → ℤ → ℤ → ℤ
 clip l h z = int_max l (int_min h z)
-
-span : (l h x y : ℤ) → l ≤ℤ h → x ≤ℤ y → pos (or_zero (int_min h y -ℤ int_max l x)) +ℤ clip l h x ≡ clip l h y
-span l h x y p q = omega (arith, ints, clamps, or_zero_is)
-
-in_order : (u0 u1 : ℤ) → int_min u0 u1 ≤ℤ int_max u0 u1
-in_order u0 u1 = omega (arith, ints, clamps)
-
-max_up : (x y : ℤ) → x ≤ℤ y → (int_max x y ≡ y) × (int_min x y ≡ x)
-max_up x y h = (omega (arith, ints, clamps), omega (arith, ints, clamps))
-
-max_down : (x y : ℤ) → y ≤ℤ x → (int_max x y ≡ x) × (int_min x y ≡ y)
-max_down x y h = (omega (arith, ints, clamps), omega (arith, ints, clamps))
 
 module _ (u0 u1 : ℤ) where
   kept : ℤ → ℤ
@@ -33,19 +28,11 @@ module _ (u0 u1 : ℤ) where
   -- of a stretch from x up to y, and of one from x down to y
   rising : (x y : ℤ) → x ≤ℤ y → pos (overlap u0 u1 x y) +ℤ kept x ≡ kept y
   unfolding kept
-  rising x y h =
-      let m = max_up x y h in
-      ap (λ z. pos (or_zero (int_min (int_max u0 u1) z -ℤ int_max (int_min u0 u1) (int_min x y))) +ℤ kept x) m.0
-      ∙ ap (λ z. pos (or_zero (int_min (int_max u0 u1) y -ℤ int_max (int_min u0 u1) z)) +ℤ kept x) m.1
-      ∙ span (int_min u0 u1) (int_max u0 u1) x y (in_order u0 u1) h
+  rising x y h = omega (arith, ints, clamps, overlap_is u0 u1 x y)
 
   falling : (x y : ℤ) → y ≤ℤ x → pos (overlap u0 u1 x y) +ℤ kept y ≡ kept x
   unfolding kept
-  falling x y h =
-      let m = max_down x y h in
-      ap (λ z. pos (or_zero (int_min (int_max u0 u1) z -ℤ int_max (int_min u0 u1) (int_min x y))) +ℤ kept y) m.0
-      ∙ ap (λ z. pos (or_zero (int_min (int_max u0 u1) x -ℤ int_max (int_min u0 u1) z)) +ℤ kept y) m.1
-      ∙ span (int_min u0 u1) (int_max u0 u1) y x (in_order u0 u1) h
+  falling x y h = omega (arith, ints, clamps, overlap_is u0 u1 x y)
 
   module _ (S : ℕ → ℤ) where
     up_to : (n : ℕ) → ((k : ℕ) → k < n → S k ≤ℤ S (suc k)) → (S 0 ≤ℤ S n) × (pos (overlaps u0 u1 S n) +ℤ kept (S 0) ≡ kept (S n))
@@ -68,6 +55,9 @@ pub conserved : Conserved
 conserved u0 u1 S n (inl h) = let r = up_to u0 u1 S n h in let t = rising u0 u1 (S 0) (S n) r.0 in omega (arith, ints)
 conserved u0 u1 S n (inr h) = let r = down_to u0 u1 S n h in let t = falling u0 u1 (S 0) (S n) r.0 in omega (arith, ints)
 
+max_up : (x y : ℤ) → x ≤ℤ y → (int_max x y ≡ y) × (int_min x y ≡ x)
+max_up x y h = (omega (arith, ints, clamps), omega (arith, ints, clamps))
+
 pub overlap_ordered : (x0 x1 lo hi : ℤ) → x0 ≤ℤ x1 → lo ≤ℤ hi → overlap x0 x1 lo hi ≡ or_zero (int_min x1 hi -ℤ int_max x0 lo)
 overlap_ordered x0 x1 lo hi p q =
     let m = max_up x0 x1 p in
@@ -78,43 +68,21 @@ overlap_ordered x0 x1 lo hi p q =
     ∙ ap (λ z. or_zero (int_min x1 hi -ℤ int_max x0 z)) n.1
 
 pub overlap_low : (x0 x1 lo hi : ℤ) → x0 ≤ℤ x1 → lo ≤ℤ hi → x1 ≤ℤ lo → overlap x0 x1 lo hi ≡ 0
-overlap_low x0 x1 lo hi p q h =
-    let z : or_zero (int_min x1 hi -ℤ int_max x0 lo) ≡ 0 = omega (arith, ints, clamps, or_zero_is) in
-    overlap_ordered x0 x1 lo hi p q ∙ z
+overlap_low x0 x1 lo hi p q h = omega (arith, ints, clamps, or_zero_is)
 
 pub overlap_high : (x0 x1 lo hi : ℤ) → x0 ≤ℤ x1 → lo ≤ℤ hi → hi ≤ℤ x0 → overlap x0 x1 lo hi ≡ 0
-overlap_high x0 x1 lo hi p q h =
-    let z : or_zero (int_min x1 hi -ℤ int_max x0 lo) ≡ 0 = omega (arith, ints, clamps, or_zero_is) in
-    overlap_ordered x0 x1 lo hi p q ∙ z
-
-max_comm : (x y : ℤ) → int_max x y ≡ int_max y x
-max_comm x y = omega (arith, ints, clamps)
-
-min_comm : (x y : ℤ) → int_min x y ≡ int_min y x
-min_comm x y = omega (arith, ints, clamps)
-
-pub overlap_swap : (a0 a1 b0 b1 : ℤ) → overlap a0 a1 b0 b1 ≡ overlap a0 a1 b1 b0
-overlap_swap a0 a1 b0 b1 =
-    ap (λ z. or_zero (int_min (int_max a0 a1) z -ℤ int_max (int_min a0 a1) (int_min b0 b1))) (max_comm b0 b1)
-    ∙ ap (λ z. or_zero (int_min (int_max a0 a1) (int_max b1 b0) -ℤ int_max (int_min a0 a1) z)) (min_comm b0 b1)
+overlap_high x0 x1 lo hi p q h = omega (arith, ints, clamps, or_zero_is)
 
 -- a stretch with its lower end first is the same stretch
 pub overlap_sorted : (a0 a1 b0 b1 : ℤ) → overlap a0 a1 (int_min b0 b1) (int_max b0 b1) ≡ overlap a0 a1 b0 b1
-overlap_sorted a0 a1 b0 b1 =
-    let m = max_up (int_min b0 b1) (int_max b0 b1) (in_order b0 b1) in
-    ap (λ z. or_zero (int_min (int_max a0 a1) z -ℤ int_max (int_min a0 a1) (int_min (int_min b0 b1) (int_max b0 b1)))) m.0
-    ∙ ap (λ z. or_zero (int_min (int_max a0 a1) (int_max b0 b1) -ℤ int_max (int_min a0 a1) z)) m.1
+overlap_sorted a0 a1 b0 b1 = omega (arith, ints, clamps, or_zero_is)
 
 pub overlap_sym : (a0 a1 b0 b1 : ℤ) → overlap a0 a1 b0 b1 ≡ overlap b0 b1 a0 a1
-overlap_sym a0 a1 b0 b1 =
-    ap (λ z. or_zero (z -ℤ int_max (int_min a0 a1) (int_min b0 b1))) (min_comm (int_max a0 a1) (int_max b0 b1))
-    ∙ ap (λ z. or_zero (int_min (int_max b0 b1) (int_max a0 a1) -ℤ z)) (max_comm (int_min a0 a1) (int_min b0 b1))
+overlap_sym a0 a1 b0 b1 = omega (arith, ints, clamps, or_zero_is)
 
--- an overlap is no longer than the first stretch
-clipped : (l h x y : ℤ) → l ≤ℤ h → or_zero (int_min h y -ℤ int_max l x) ≤ or_zero (h -ℤ l)
-clipped l h x y p = omega (arith, ints, clamps, or_zero_is)
+-- stretches with their lower ends first overlap as the same stretches with their ends in either order
+pub overlap_between : (a0 a1 b0 b1 : ℤ) → overlap (int_min a0 a1) (int_max a0 a1) (int_min b0 b1) (int_max b0 b1) ≡ overlap a0 a1 b0 b1
+overlap_between a0 a1 b0 b1 = overlap_sorted (int_min a0 a1) (int_max a0 a1) b0 b1 ∙ overlap_sym (int_min a0 a1) (int_max a0 a1) b0 b1 ∙ overlap_sorted b0 b1 a0 a1 ∙ overlap_sym b0 b1 a0 a1
 
 pub overlap_most : (u0 u1 s0 s1 : ℤ) → overlap u0 u1 s0 s1 ≤ nat_abs (u1 -ℤ u0)
-overlap_most u0 u1 s0 s1 =
-    let e : or_zero (int_max u0 u1 -ℤ int_min u0 u1) ≡ nat_abs (u1 -ℤ u0) = omega (arith, ints, clamps, or_zero_is) in
-    omega (arith, e, clipped (int_min u0 u1) (int_max u0 u1) (int_min s0 s1) (int_max s0 s1) (in_order u0 u1))
+overlap_most u0 u1 s0 s1 = omega (arith, ints, clamps, or_zero_is)

@@ -15,13 +15,6 @@ all_below p (suc n) = p n && all_below p n
 from_all : (p : ℕ → Bool) (n : ℕ) → all_below p n ≡ true → (k : ℕ) → k < n → p k ≡ true
 from_all p n e = (Decides-below_and p (λ k. p k ≡ true) (all_below p) (λ k. (λ h. h, λ h. h)) refl (λ _. refl) n).0 e
 
-abbrev small_at : ℕ → Bool
-small_at r = nat_le (nat_abs (sine r)) 16384
-
-pub sine_within : (r : ℕ) → r < 17 → nat_abs (sine r) ≤ 16384
-unfolding sine
-sine_within r h = leb-true _ 16384 (from_all small_at 17 refl r h)
-
 abbrev round_at : ℕ → Bool
 round_at q = nat_le (nat_abs (cos_of q *ℤ cos_of q +ℤ sin_of q *ℤ sin_of q -ℤ pos (2 ^ 28))) 17126
 

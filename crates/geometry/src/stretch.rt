@@ -34,3 +34,17 @@ impl Stretch {
         gap(self.low.max(other.low), self.high.min(other.high))
     }
 }
+
+#[cfg(test)]
+mod tests {
+    use super::*;
+
+    #[test]
+    fn stretches_overlap_whichever_end_comes_first(rt: HostRuntime) {
+        let stretch = Stretch::between(2, 7);
+        assert_eq!(rt; stretch, Stretch::between(7, 2));
+        assert_eq!(rt; stretch.overlap(Stretch::between(9, 4)), 3);
+        assert_eq!(rt; stretch.overlap(Stretch::between(7, 9)), 0);
+        assert_eq!(rt; stretch.overlap(Stretch::between(12, 9)), 0);
+    }
+}

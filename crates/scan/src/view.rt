@@ -28,14 +28,11 @@ impl Plan {
     pub fn view(&self, view: usize) -> Option<View<'_>>
         ensures { elim result [ Some w ↦ (view < length (plan_of self.now).steps) × (landing_of (plan_of w.plan.now) w.direction.slabs w.direction.a w.direction.b ≡ landing (plan_of self.now) view) × Lands (plan_of self.now) view | None ↦ length (plan_of self.now).steps ≤ view ] }
     {
-        if view < self.layout.views() {
-            Some(View {
-                plan: self,
-                direction: direction(self.layout.views[view]),
-            })
-        } else {
-            None
-        }
+        let step = *self.layout.views.get(view)?;
+        Some(View {
+            plan: self,
+            direction: direction(step),
+        })
     }
 }
 

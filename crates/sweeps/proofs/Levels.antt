@@ -3,7 +3,7 @@ use Rattle.std.proofs.Common.{◌≡◌, ℕ, ◌+◌, ◌<◌, List, length, sy
 use Rattle.values.specs.Laws.{Ops, Laws}
 use Rattle.values.specs.Sums.{sum}
 use Rattle.values.proofs.Sums.{sum_more}
-use Rattle.sweeps.specs.Strips.{naturals, Gained}
+use Rattle.sweeps.specs.Strips.{naturals}
 use Rattle.scan.specs.Landing.{Landing, voxels, cells}
 use Rattle.sweeps.specs.Passes.{weights, Lengths, Sized, Swept}
 use Rattle.sweeps.specs.declared.pass.Pass.{Pass}

@@ -4,9 +4,9 @@ ghost use Rattle.scan.specs.Meanings.{plan_of};
 ghost use Rattle.sweeps.specs.Systems.{back};
 ghost use Rattle.sweeps.specs.Calls.{system_of, call_check, unless_refused};
 
-use crate::sweep::sweep;
 use crate::call::checked;
 use crate::pass::{Pass, Way};
+use crate::sweep::sweep;
 use scan::plan::Plan;
 use scan::refusal::Refusal;
 use values::value::Value;

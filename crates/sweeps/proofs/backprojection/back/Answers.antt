@@ -6,13 +6,10 @@ use Rattle.sweeps.proofs.backprojection.back.Goals as goal
 pub sweep-requires : goal.sweep-requires
 sweep-requires g c =
     let a = c.args in
-    let x = c.in_ok-call.ensures in
-    record {
-      sized = (
-        part_sized g.met.V.Value.lawful (plan_of a.plan.now) a.view a.factor a.volume.now a.working.now _ _ _ x,
-        volume_sized g.met.V.Value.lawful (plan_of a.plan.now) a.view a.factor a.volume.now a.working.now _ _ _ x,
-      );
-    }
+    let x = c.in_ok-call.ensures in (
+      part_sized g.met.V.Value.lawful (plan_of a.plan.now) a.view a.factor a.volume.now a.working.now _ _ _ x,
+      volume_sized g.met.V.Value.lawful (plan_of a.plan.now) a.view a.factor a.volume.now a.working.now _ _ _ x,
+    )
 
 pub returns : goal.returns
 returns g c =

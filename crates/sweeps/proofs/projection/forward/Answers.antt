@@ -13,13 +13,10 @@ offset_bounds-working-call g c =
 pub sweep-requires : goal.sweep-requires
 sweep-requires g c =
     let a = c.args in
-    let x = c.in_ok-call.ensures in
-    record {
-      sized = (
-        volume_sized g.met.V.Value.lawful (plan_of a.plan.now) a.view a.factor a.volume.now a.working.now _ _ _ x,
-        part_sized g.met.V.Value.lawful (plan_of a.plan.now) a.view a.factor a.volume.now a.working.now _ _ _ x,
-      );
-    }
+    let x = c.in_ok-call.ensures in (
+      volume_sized g.met.V.Value.lawful (plan_of a.plan.now) a.view a.factor a.volume.now a.working.now _ _ _ x,
+      part_sized g.met.V.Value.lawful (plan_of a.plan.now) a.view a.factor a.volume.now a.working.now _ _ _ x,
+    )
 
 pub returns : goal.returns
 returns g c =

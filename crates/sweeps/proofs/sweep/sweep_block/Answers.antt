@@ -1,5 +1,4 @@
-use Rattle.std.proofs.Common.{◌≡◌, ◌+◌, ◌*◌, ◌<◌, ◌/◌, ◌%◌, length, rules, arith}
-use Rattle.sweeps.specs.Tables.{Tabled}
+use Rattle.std.proofs.Common.{◌≡◌, ◌+◌, ◌*◌, ◌<◌, length, rules, arith}
 use Rattle.sweeps.proofs.sweep.sweep_block.Goals as goal
 
 pub invariant_of-block : goal.invariant_of-block

@@ -1,4 +1,4 @@
-use Rattle.std.proofs.Common.{arith, w32, to_z, of_z}
+use Rattle.std.proofs.Common.{w32, to_z, of_z}
 use Rattle.std.proofs.lemmas.Result.{err_from_is_err_and}
 use Rattle.std.proofs.lemmas.Int.{to_z-of_z}
 use Rattle.scan.proofs.Propers.{even_proper}
@@ -10,7 +10,7 @@ returns-in_err-check_edges c =
     let first = c.ranges.first in
     let pitch = c.ranges.pitch in
     let found = simp to_z-of_z at c.in_err-check_edges.ensures in
-    rw (p.1, p.2) (grind arith)
+    rw (p.1, p.2, c.in_ok-check_count.ensures.0) found
 
 pub invariant_of-result : goal.invariant_of-result
 invariant_of-result c =

@@ -1,4 +1,5 @@
-use Rattle.std.proofs.Common.{vec_items, ap, ◌∙◌, arith}
+use Rattle.std.specs.Prelude.{◌<◌, length, slice_index_or, vec_items}
+use Rattle.std.proofs.Common.{ap, ◌∙◌, arith}
 use Rattle.geometry.specs.Turn.{slab_axis, main_of, side_of}
 use Rattle.scan.specs.Plans.{landing}
 use Rattle.scan.specs.Meanings.{plan_of}
@@ -6,11 +7,16 @@ use Rattle.scan.specs.Fits.{number_at, fitted, landing_same, views_length}
 use Rattle.scan.specs.Landings.{lands}
 use Rattle.scan.proofs.plan.Plan.view.Goals as goal
 
-pub returns-then-view-views : goal.returns-then-view-views
+pub returns : goal.returns
 unfolding landing
-returns-then-view-views c =
+returns c =
+    let scan = plan_of c.args.self.now in
     let layout = c.args.self.now.layout in
-    let long = views_length layout.views in
-    let step = number_at (vec_items layout.views) c.args.view c.index.result.now (omega (arith, layout.views.ok.0)) c.index.ensures in
+    let steps = vec_items layout.views in
+    let look = c.in_ok-step.ensures.lookup in
+    let here : c.args.view < length steps = grind (arith, ap length c.deref.ensures.value) in
+    let at = look.1 ∙ ap (λ items. slice_index_or items c.args.view c.in_ok-step.field-0.now) c.deref.ensures.value in
+    let step = number_at steps c.args.view c.in_ok-step.field-0.now here at in
     let d = c.direction.ensures in
-    (omega arith, landing_same (plan_of c.args.self.now) (d.slabs ∙ ap slab_axis step) (d.main ∙ ap main_of step) (d.side ∙ ap side_of step), lands (plan_of c.args.self.now) (fitted layout) c.args.view)
+    let same = landing_same scan (d.slabs ∙ ap slab_axis step) (d.main ∙ ap main_of step) (d.side ∙ ap side_of step) in
+    (omega (arith, here, views_length layout.views, layout.views.ok.0), same, lands scan (fitted layout) c.args.view)

@@ -1,4 +1,4 @@
-use Rattle.std.proofs.Common.{◌≡◌, ◌+◌, ◌<◌, length, slice_index_or, pos, ap, ◌∙◌, arith, rules}
+use Rattle.std.proofs.Common.{◌≡◌, ◌+◌, ◌<◌, length, arith, rules}
 use Rattle.sweeps.specs.Tables.{Tabled}
 use Rattle.sweeps.proofs.Beams.{tabled_rising}
 use Rattle.sweeps.proofs.Blocks.{slab_is}

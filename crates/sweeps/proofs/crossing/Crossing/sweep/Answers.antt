@@ -1,5 +1,5 @@
-use Rattle.std.proofs.Common.{◌≡◌, sym, ap, subst, length, arith}
-use Rattle.sweeps.specs.Passes.{Sized, beam_weight, column_weight}
+use Rattle.std.proofs.Common.{◌≡◌, ap, arith}
+use Rattle.sweeps.specs.Passes.{beam_weight, column_weight}
 use Rattle.sweeps.proofs.Levels.{summed, summed_none, summed_more, swept_as}
 use Rattle.sweeps.proofs.crossing.Crossing.sweep.Goals as goal
 

@@ -1,4 +1,4 @@
-use Rattle.std.proofs.Common.{◌*◌, length, ◌∙◌, arith}
+use Rattle.std.proofs.Common.{◌*◌, length, arith}
 use Rattle.sweeps.specs.Strips.{strip_share}
 use Rattle.sweeps.specs.Passes.{beam_weight}
 use Rattle.sweeps.proofs.Beams.{voxel_line, cell_line, voxels_inside, cells_inside, cells_none, beam_is, placed, line_most}

@@ -1,4 +1,3 @@
-use Rattle.std.proofs.Common.{arith}
 use Rattle.std.proofs.lemmas.Int.{to_z-of_z}
 use Rattle.sweeps.proofs.Runs.{edges_before}
 use Rattle.sweeps.proofs.edges.LandedEdges.run_start.Goals as goal

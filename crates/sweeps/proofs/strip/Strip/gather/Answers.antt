@@ -8,7 +8,7 @@ use Rattle.sweeps.proofs.strip.Strip.gather.Goals as goal
 pub loop-cell-init : goal.loop-cell-init
 loop-cell-init g c =
     let s = c.args.self in
-    c.neutral-sum.ensures ∙ sym (gather_none g.met.V.Value.lawful s.start s.stride (share s.edges.at.now s.over.low s.over.high) c.args.from.now s.first c.args.self.covers.before)
+    c.ZERO-sum.ensures ∙ g.met.V.Value.zero_named ∙ sym (gather_none g.met.V.Value.lawful s.start s.stride (share s.edges.at.now s.over.low s.over.high) c.args.from.now s.first c.args.self.covers.before)
 
 pub loop-cell-preserved : goal.loop-cell-preserved
 loop-cell-preserved g c =
