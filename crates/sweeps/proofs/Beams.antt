@@ -4,14 +4,13 @@ use lib.Arith.{digits_lt}
 use Rattle.std.proofs.lemmas.Bool.{cases_lt}
 use Rattle.geometry.specs.Overlap.{overlap}
 use Rattle.geometry.specs.declared.direction.SlabAxis.{SlabAxis}
-use Rattle.geometry.specs.declared.stretch.Stretch.{Stretch}
 use Rattle.geometry.specs.declared.direction.SlabAxis.TheVariants.{X, Y}
 use Rattle.values.proofs.Sums.{sum_same, sum_none}
 use Rattle.scan.specs.Landing.{Landing, Sound, by_slabs, voxels, cells, cross_overlap, height_overlap}
 use Rattle.sweeps.specs.Runs.{share, Rising}
 use Rattle.sweeps.specs.Strips.{laid, strip_cells, strip_share, Inside}
 use Rattle.sweeps.specs.Tables.{Tabled}
-use Rattle.sweeps.specs.Passes.{weights, Lengths, Placed, slab_start, slab_stride, rise, beam_weight, column_weight, SlabOf, ColumnOf, Meets, CellLine}
+use Rattle.sweeps.specs.Passes.{weights, Lengths, Placed, slab_start, slab_stride, rise, beam_weight, column_weight, SlabOf, ColumnOf, Meets, VoxelLine, CellLine}
 use Rattle.sweeps.specs.declared.pass.Way.{Way}
 use Rattle.sweeps.specs.declared.pass.Way.TheVariants.{Forward, Back}
 use Rattle.sweeps.specs.declared.pass.Slab.{Slab}
@@ -73,7 +72,7 @@ tabled_rising es n f t r i l =
     (subst (λ z. f i ≤ℤ z) (sym (t.1 (i + 1) (omega arith))) (r i))
 
 -- an empty run: no cell overlaps
-pub share_empty : (s : Strip) → s.last ≤ s.first → (i : ℕ) → i < strip_cells s → share s.edges.at.now s.over.low s.over.high i ≡ 0
+pub share_empty : (s : Strip) → s.last ≤ s.first → (i : ℕ) → i < strip_cells s → share s.line.edges.at.now s.over.low s.over.high i ≡ 0
 share_empty s h i l = ⊎_elim (λ lt. s.covers.before i lt) (λ ge. s.covers.after i (omega arith) l) (cases_lt i s.first)
 
 module _ (L : Landing) (slab : Slab) (column : Column) (sl : SlabOf L slab) (co : ColumnOf L column) where
@@ -83,118 +82,102 @@ module _ (L : Landing) (slab : Slab) (column : Column) (sl : SlabOf L slab) (co 
   abbrev k : ℕ
   k = column.number
 
-  cross_share : (i : ℕ) → i < L.crosses → share slab.crosses.at.now column.over.low column.over.high i ≡ cross_overlap L j i k
+  -- the stretch of height l, between two edges of the slab's table
+  abbrev low : ℕ → ℤ
+  low l = slice_index_or slab.heights.at.now l (pos 0)
+
+  cross_share : (i : ℕ) → i < L.crosses → share slab.lowest.edges.at.now column.over.low column.over.high i ≡ cross_overlap L j i k
   unfolding cross_overlap
   cross_share i l =
       ap₂ (λ a b. overlap a b column.over.low column.over.high) (sl.crosses.1 i (omega arith)) (sl.crosses.1 (i + 1) (omega arith))
       ∙ ap₂ (λ a b. overlap (L.U j i) (L.U j (i + 1)) a b) co.low co.high
       ∙ overlap_sorted (L.U j i) (L.U j (i + 1)) (L.S k) (L.S (k + 1))
 
-  height_share : (l m : ℕ) → l < L.heights → m < L.rows → share column.rows.at.now (slice_index_or slab.heights.at.now l (pos 0)) (slice_index_or slab.heights.at.now (l + 1) (pos 0)) m ≡ height_overlap L j l k m
+  height_share : (l m : ℕ) → l < L.heights → m < L.rows → share column.cells.edges.at.now (low l) (low (l + 1)) m ≡ height_overlap L j l k m
   unfolding height_overlap
   height_share l m lh mr =
-      ap₂ (λ a b. overlap a b (slice_index_or slab.heights.at.now l (pos 0)) (slice_index_or slab.heights.at.now (l + 1) (pos 0))) (co.rows.1 m (omega arith)) (co.rows.1 (m + 1) (omega arith))
+      ap₂ (λ a b. overlap a b (low l) (low (l + 1))) (co.rows.1 m (omega arith)) (co.rows.1 (m + 1) (omega arith))
       ∙ ap₂ (λ a b. overlap (L.T k m) (L.T k (m + 1)) a b) (sl.heights.1 l (omega arith)) (sl.heights.1 (l + 1) (omega arith))
       ∙ overlap_sym (L.T k m) (L.T k (m + 1)) (L.W j l) (L.W j (l + 1))
-
-  -- the line of voxels at height l
-  pub record VoxelLine (l : ℕ) (s : Strip) : Type 0 where
-    pub start : s.start ≡ slab.start + l * slab.rise
-    pub meets : Meets slab column s
-
-  pub voxel_line : (l : ℕ) (cross s : Strip) → Meets slab column cross → (s.start ≡ slab.start + l * slab.rise) × (s.stride ≡ cross.stride)
-      → s.edges.at.now ≡ cross.edges.at.now → (s.over.low ≡ cross.over.low) × (s.over.high ≡ cross.over.high) → VoxelLine l s
-  voxel_line l cross s meets place edges stretch =
-      record {
-        start = place.0;
-        meets = record { stride = place.1 ∙ meets.stride; edges = edges ∙ meets.edges; low = stretch.0 ∙ meets.low; high = stretch.1 ∙ meets.high };
-      }
-
-  -- the line of cells over the stretch of height l
-  pub cell_line : (l : ℕ) (over : Stretch) (s : Strip) → (s.start ≡ column.number) × (s.stride ≡ column.stride) → s.edges.at.now ≡ column.rows.at.now
-      → (s.over.low ≡ over.low) × (s.over.high ≡ over.high)
-      → over.low ≡ slice_index_or slab.heights.at.now l (pos 0) → over.high ≡ slice_index_or slab.heights.at.now (l + 1) (pos 0) → CellLine slab column l s
-  cell_line l over s place edges stretch low high =
-      record { start = place.0; stride = place.1; edges = edges; low = stretch.0 ∙ low; high = stretch.1 ∙ high }
 
   module _ (l : ℕ) (lh : l < L.heights) (s : Strip) where
     abbrev start : ℕ
     start = slab_start L j + l * rise L
 
-    crosses_are : VoxelLine l s → strip_cells s ≡ L.crosses
-    crosses_are v = let e = ap length v.meets.edges in let f = sl.crosses.0 in omega arith
+    crosses_are : VoxelLine slab column l s → strip_cells s ≡ L.crosses
+    crosses_are v = let e = ap (λ es. length es.at.now) v.edges in let f = sl.crosses.0 in omega arith
 
-    start_is : VoxelLine l s → s.start ≡ start
+    start_is : VoxelLine slab column l s → s.line.start ≡ start
     start_is v = v.start ∙ ap₂ (λ a b. a + l * b) sl.start sl.rise
 
-    voxel_share : VoxelLine l s → (i : ℕ) → i < L.crosses → share s.edges.at.now s.over.low s.over.high i ≡ cross_overlap L j i k
-    voxel_share v i h =
-        ap (λ es. share es s.over.low s.over.high i) v.meets.edges ∙ ap₂ (λ a b. share slab.crosses.at.now a b i) v.meets.low v.meets.high ∙ cross_share i h
+    voxel_share : VoxelLine slab column l s → (i : ℕ) → i < L.crosses → share s.line.edges.at.now s.over.low s.over.high i ≡ cross_overlap L j i k
+    voxel_share v i h = ap₂ (λ es over. share es.at.now over.low over.high i) v.edges v.over ∙ cross_share i h
 
-    pub voxels_laid : VoxelLine l s → (x : ℕ) → strip_share s x ≡ laid start (slab_stride L) (λ i. cross_overlap L j i k) L.crosses x
+    pub voxels_laid : VoxelLine slab column l s → (x : ℕ) → strip_share s x ≡ laid start (slab_stride L) (λ i. cross_overlap L j i k) L.crosses x
     voxels_laid v x =
         let n = crosses_are v in
-        laid_same s.start start s.stride (slab_stride L) (strip_cells s) L.crosses _ _ (start_is v) (v.meets.stride ∙ sl.stride) n (λ i h. voxel_share v i (omega arith)) x
+        laid_same s.line.start start s.line.stride (slab_stride L) (strip_cells s) L.crosses _ _ (start_is v) (v.stride ∙ sl.stride) n (λ i h. voxel_share v i (omega arith)) x
 
-    pub voxels_inside : VoxelLine l s → Inside s (voxels L)
+    pub voxels_inside : VoxelLine slab column l s → Inside s (voxels L)
     voxels_inside v i h =
         let n = crosses_are v in
-        let place : s.start + i * s.stride ≡ start + i * slab_stride L = ap₂ (λ a b. a + i * b) (start_is v) (v.meets.stride ∙ sl.stride) in
+        let place : s.line.start + i * s.line.stride ≡ start + i * slab_stride L = ap₂ (λ a b. a + i * b) (start_is v) (v.stride ∙ sl.stride) in
         rw place (voxel_inside L j l i sl.below lh (omega arith))
 
     rows_are : CellLine slab column l s → strip_cells s ≡ L.rows
-    rows_are v = let e = ap length v.edges in let f = co.rows.0 in omega arith
+    rows_are v = let e = ap (λ line. length line.edges.at.now) v.line in let f = co.rows.0 in omega arith
 
-    -- where the run of rows begins
-    pub near_rows : CellLine slab column l s → s.first ≤ L.rows
-    near_rows v = let n = rows_are v in let r = s.covers.run in let e = s.covers.ends in omega arith
-
-    cell_share : CellLine slab column l s → (m : ℕ) → m < L.rows → share s.edges.at.now s.over.low s.over.high m ≡ height_overlap L j l k m
+    cell_share : CellLine slab column l s → (m : ℕ) → m < L.rows → share s.line.edges.at.now s.over.low s.over.high m ≡ height_overlap L j l k m
     cell_share v m h =
-        ap (λ es. share es s.over.low s.over.high m) v.edges ∙ ap₂ (λ a b. share column.rows.at.now a b m) v.low v.high ∙ height_share l m lh h
+        ap (λ line. share line.edges.at.now s.over.low s.over.high m) v.line ∙ ap₂ (λ a b. share column.cells.edges.at.now a b m) v.low v.high ∙ height_share l m lh h
+
+    place_is : CellLine slab column l s → (s.line.start ≡ k) × (s.line.stride ≡ L.columns)
+    place_is v = (ap (λ line. line.start) v.line ∙ co.start, ap (λ line. line.stride) v.line ∙ co.stride)
 
     pub cells_laid : CellLine slab column l s → (c : ℕ) → strip_share s c ≡ laid k L.columns (λ m. height_overlap L j l k m) L.rows c
     cells_laid v c =
         let n = rows_are v in
-        laid_same s.start k s.stride L.columns (strip_cells s) L.rows _ _ v.start (v.stride ∙ co.stride) n (λ m h. cell_share v m (omega arith)) c
+        laid_same s.line.start k s.line.stride L.columns (strip_cells s) L.rows _ _ (place_is v).0 (place_is v).1 n (λ m h. cell_share v m (omega arith)) c
 
     pub cells_inside : CellLine slab column l s → Inside s (cells L)
     cells_inside v m h =
         let n = rows_are v in
-        let place : s.start + m * s.stride ≡ k + m * L.columns = ap₂ (λ a b. a + m * b) v.start (v.stride ∙ co.stride) in
+        let place : s.line.start + m * s.line.stride ≡ k + m * L.columns = ap₂ (λ a b. a + m * b) (place_is v).0 (place_is v).1 in
         rw place (cell_inside L k m co.below (omega arith))
 
     -- no cell is reached
     pub cells_none : CellLine slab column l s → s.last ≤ s.first → (x c : ℕ) → beam_weight L j k l x c ≡ 0
     unfolding beam_weight
     cells_none v h x c =
-        let n = rows_are v in
         let z : laid k L.columns (λ m. height_overlap L j l k m) L.rows c ≡ 0 =
-        sym (cells_laid v c) ∙ laid_zero s.start s.stride (share s.edges.at.now s.over.low s.over.high) (strip_cells s) c (share_empty s h) in
+        sym (cells_laid v c) ∙ laid_zero s.line.start s.line.stride (share s.line.edges.at.now s.over.low s.over.high) (strip_cells s) c (share_empty s h) in
         ap (λ b. laid start (slab_stride L) (λ i. cross_overlap L j i k) L.crosses x * b) z ∙ mul-zero _
 
     -- no voxel is reached
-    pub voxels_none : VoxelLine l s → s.last ≤ s.first → (x c : ℕ) → beam_weight L j k l x c ≡ 0
+    pub voxels_none : VoxelLine slab column l s → s.last ≤ s.first → (x c : ℕ) → beam_weight L j k l x c ≡ 0
     unfolding beam_weight
     voxels_none v h x c =
         let z : laid start (slab_stride L) (λ i. cross_overlap L j i k) L.crosses x ≡ 0 =
-        sym (voxels_laid v x) ∙ laid_zero s.start s.stride (share s.edges.at.now s.over.low s.over.high) (strip_cells s) x (share_empty s h) in
+        sym (voxels_laid v x) ∙ laid_zero s.line.start s.line.stride (share s.line.edges.at.now s.over.low s.over.high) (strip_cells s) x (share_empty s h) in
         ap (λ b. b * laid k L.columns (λ m. height_overlap L j l k m) L.rows c) z ∙ zero-mul _
-
-  -- where the run of voxels begins
-  pub near_crosses : (s : Strip) → Meets slab column s → s.first ≤ L.crosses
-  near_crosses s v = let e = ap length v.edges in let f = sl.crosses.0 in let r = s.covers.run in let n = s.covers.ends in omega arith
 
   -- the column meets no voxel of the slab
   pub column_none : (s : Strip) → Meets slab column s → s.last ≤ s.first → (x c : ℕ) → column_weight L j k x c ≡ 0
   unfolding column_weight
   column_none s v h x c =
       sum_none naturals_laws L.heights _ (λ l lh.
-      voxels_none l lh (record { start = slab.start + l * slab.rise; stride = s.stride; edges = s.edges; over = s.over; first = s.first; last = s.last; covers = s.covers })
-      (voxel_line l s _ v (refl, refl) refl (refl, refl)) h x c)
+      voxels_none l lh
+      (record {
+        line = record { start = slab.lowest.start + l * slab.rise; stride = s.line.stride; edges = s.line.edges };
+        over = s.over;
+        first = s.first;
+        last = s.last;
+        covers = s.covers;
+      })
+      (record { start = refl; stride = ap (λ line. line.stride) v.line; edges = ap (λ line. line.edges) v.line; over = v.over }) h x c)
 
   -- what a voxel and a cell have of their weight here
-  pub beam_is : (l : ℕ) → l < L.heights → (s t : Strip) → VoxelLine l s → CellLine slab column l t → (x c : ℕ) → strip_share s x * strip_share t c ≡ beam_weight L j k l x c
+  pub beam_is : (l : ℕ) → l < L.heights → (s t : Strip) → VoxelLine slab column l s → CellLine slab column l t → (x c : ℕ) → strip_share s x * strip_share t c ≡ beam_weight L j k l x c
   unfolding beam_weight
   beam_is l lh s t vs ct x c = ap₂ (λ a b. a * b) (voxels_laid l lh s vs x) (cells_laid l lh t ct c)
 

@@ -14,8 +14,8 @@ pub row_end : (m rows columns : ℕ) → m < rows → m * columns + columns ≤ 
 row_end m rows columns h = let more : m + 1 ≤ rows = omega arith in omega (arith, mul-le-mul_right columns more, add-mul m 1 columns, one-mul columns)
 
 -- the numbers and tables of a slab, from those of its number
-pub slab_is : (L : Landing) (j : ℕ) (s : Slab) → j < L.slabs → s.number ≡ j → s.start ≡ slab_start L j → s.stride ≡ slab_stride L → s.rise ≡ rise L
-    → (us ws : List ℤ) → s.crosses.at.now ≡ us → s.heights.at.now ≡ ws → Tabled us (L.crosses + 1) (L.U j) → Tabled ws (L.heights + 1) (L.W j) → SlabOf L s
+pub slab_is : (L : Landing) (j : ℕ) (s : Slab) → j < L.slabs → s.number ≡ j → s.lowest.start ≡ slab_start L j → s.lowest.stride ≡ slab_stride L → s.rise ≡ rise L
+    → (us ws : List ℤ) → s.lowest.edges.at.now ≡ us → s.heights.at.now ≡ ws → Tabled us (L.crosses + 1) (L.U j) → Tabled ws (L.heights + 1) (L.W j) → SlabOf L s
 slab_is L j s below number start stride rise us ws crosses heights U W =
     record {
       below = omega arith;
@@ -55,17 +55,18 @@ module _ (L : Landing) (first count stride width : ℕ) (columns rows : List ℤ
   pub part_some : 0 < length part
   part_some = let e = part_tabled.0 in omega arith
 
-  pub block_column : (c : Column) → c.number ≡ first + d → c.stride ≡ stride
+  pub block_column : (c : Column) → c.number ≡ first + d → c.cells.start ≡ c.number → c.cells.stride ≡ stride
       → c.over.low ≡ int_min (slice_index_or columns d (pos 0)) (slice_index_or columns (d + 1) (pos 0))
       → c.over.high ≡ int_max (slice_index_or columns d (pos 0)) (slice_index_or columns (d + 1) (pos 0))
-      → c.rows.at.now ≡ part → ColumnOf L c
-  block_column c number is_stride low high is_rows =
+      → c.cells.edges.at.now ≡ part → ColumnOf L c
+  block_column c number is_start is_stride low high is_rows =
       let one : slice_index_or columns d (pos 0) ≡ L.S c.number = bo.columns_are.1 d (omega arith) ∙ ap L.S (sym number) in
       let next : first + (d + 1) ≡ c.number + 1 = omega arith in
       let other : slice_index_or columns (d + 1) (pos 0) ≡ L.S (c.number + 1) = bo.columns_are.1 (d + 1) (omega arith) ∙ ap L.S next in
       let limit = bo.below in
       record {
         below = omega arith;
+        start = is_start;
         stride = is_stride ∙ bo.stride_is;
         low = low ∙ ap₂ int_min one other;
         high = high ∙ ap₂ int_max one other;

@@ -71,32 +71,36 @@ block_weight L first n x c = sum naturals L.slabs (λ j. slab_weight L first n j
 -- The numbers and tables of a slab.
 pub record SlabOf (L : Landing) (s : Slab) : Type 0 where
   pub below : s.number < L.slabs
-  pub start : s.start ≡ slab_start L s.number
-  pub stride : s.stride ≡ slab_stride L
+  pub start : s.lowest.start ≡ slab_start L s.number
+  pub stride : s.lowest.stride ≡ slab_stride L
   pub rise : s.rise ≡ rise L
-  pub crosses : Tabled s.crosses.at.now (L.crosses + 1) (L.U s.number)
+  pub crosses : Tabled s.lowest.edges.at.now (L.crosses + 1) (L.U s.number)
   pub heights : Tabled s.heights.at.now (L.heights + 1) (L.W s.number)
 
 -- The numbers and the table of a column, its S stretch with the lower end first.
 pub record ColumnOf (L : Landing) (c : Column) : Type 0 where
   pub below : c.number < L.columns
-  pub stride : c.stride ≡ L.columns
+  pub start : c.cells.start ≡ c.number
+  pub stride : c.cells.stride ≡ L.columns
   pub low : c.over.low ≡ int_min (L.S c.number) (L.S (c.number + 1))
   pub high : c.over.high ≡ int_max (L.S c.number) (L.S (c.number + 1))
-  pub rows : Tabled c.rows.at.now (L.rows + 1) (L.T c.number)
+  pub rows : Tabled c.cells.edges.at.now (L.rows + 1) (L.T c.number)
 
--- The strip is the line of voxels of a slab, over the stretch of a column.
+-- The strip is the lowest voxels of a slab, over the stretch of a column.
 pub record Meets (s : Slab) (c : Column) (strip : Strip) : Type 0 where
-  pub stride : strip.stride ≡ s.stride
-  pub edges : strip.edges.at.now ≡ s.crosses.at.now
-  pub low : strip.over.low ≡ c.over.low
-  pub high : strip.over.high ≡ c.over.high
+  pub line : strip.line ≡ s.lowest
+  pub over : strip.over ≡ c.over
 
--- The strip is the cells of a column, over the stretch of a height.
+-- The strip is the voxels of a slab at height l, over the stretch of a column.
+pub record VoxelLine (s : Slab) (c : Column) (l : ℕ) (strip : Strip) : Type 0 where
+  pub start : strip.line.start ≡ s.lowest.start + l * s.rise
+  pub stride : strip.line.stride ≡ s.lowest.stride
+  pub edges : strip.line.edges ≡ s.lowest.edges
+  pub over : strip.over ≡ c.over
+
+-- The strip is the cells of a column, over the stretch of height l.
 pub record CellLine (s : Slab) (c : Column) (l : ℕ) (strip : Strip) : Type 0 where
-  pub start : strip.start ≡ c.number
-  pub stride : strip.stride ≡ c.stride
-  pub edges : strip.edges.at.now ≡ c.rows.at.now
+  pub line : strip.line ≡ c.cells
   pub low : strip.over.low ≡ slice_index_or s.heights.at.now l (pos 0)
   pub high : strip.over.high ≡ slice_index_or s.heights.at.now (l + 1) (pos 0)
 

@@ -16,15 +16,15 @@ laid start stride w n p = sum naturals n (λ i. if p == start + i * stride then 
 
 -- The number of cells of a strip.
 abbrev pub strip_cells : Strip → ℕ
-strip_cells s = length s.edges.at.now - 1
+strip_cells s = length s.line.edges.at.now - 1
 
 -- How far the strip's cell at place p of the store overlaps its stretch.
 abbrev pub strip_share : Strip → ℕ → ℕ
-strip_share s p = laid s.start s.stride (share s.edges.at.now s.over.low s.over.high) (strip_cells s) p
+strip_share s p = laid s.line.start s.line.stride (share s.line.edges.at.now s.over.low s.over.high) (strip_cells s) p
 
 -- The strip lies in a store of n places.
 abbrev pub Inside : Strip → ℕ → Type 0
-Inside s n = (i : ℕ) → i < strip_cells s → s.start + i * s.stride < n
+Inside s n = (i : ℕ) → i < strip_cells s → s.line.start + i * s.line.stride < n
 
 -- Each place p of a store has gained f times the sum over all places q of another of the multiple of its value by M q p.
 abbrev pub Gained : {V : Type 0} → Ops V → V → List V → (ℕ → ℕ → ℕ) → List V → List V → Type 0

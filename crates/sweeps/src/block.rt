@@ -5,6 +5,7 @@ ghost use Rattle.sweeps.specs.Passes.{Sized, Swept, column_weight, slab_weight, 
 use crate::crossing::Crossing;
 use crate::edges::LandedEdges;
 use crate::pass::{Column, Pass, Slab};
+use crate::strip::Line;
 use crate::table::filled;
 use geometry::direction::SlabAxis;
 use geometry::stretch::Stretch;
@@ -77,13 +78,17 @@ impl<'a, V: Value, L: Landed> Block<'a, V, L> {
         ensures column { ColumnOf (L.Landed.landing self.now.pass.now.view.now) result }
     {
         let start = offset * self.width;
+        let rows = LandedEdges {
+            at: &self.rows[start..start + self.width],
+        };
         Column {
             number: self.first + offset,
-            stride: self.stride,
-            over: Stretch::between(self.columns[offset], self.columns[offset + 1]),
-            rows: LandedEdges {
-                at: &self.rows[start..start + self.width],
+            cells: Line {
+                start: self.first + offset,
+                stride: self.stride,
+                edges: rows,
             },
+            over: Stretch::between(self.columns[offset], self.columns[offset + 1]),
         }
     }
 }
@@ -103,7 +108,7 @@ fn sweep_column<V: Value, L: Landed>(
     ensures near { result ≤ (L.Landed.landing pass.now.view.now).crosses }
     ensures swept { Swept V.Value.ops pass.now (column_weight (L.Landed.landing pass.now.view.now) slab.entry.number column.entry.number) to.old to.new }
 {
-    let voxels = slab.voxels_over(column.over, near);
+    let voxels = slab.lowest.over(column.over, near);
     if voxels.first < voxels.last {
         let crossing = Crossing {
             pass,
@@ -125,11 +130,11 @@ fn slab_of<'a, L: Landed>(
 ) -> Slab<'a>
     requires { number < (L.Landed.landing view.now).slabs }
     ensures number { result.number ≡ number }
-    ensures start { result.start ≡ slab_start (L.Landed.landing view.now) number }
-    ensures stride { result.stride ≡ slab_stride (L.Landed.landing view.now) }
+    ensures start { result.lowest.start ≡ slab_start (L.Landed.landing view.now) number }
+    ensures stride { result.lowest.stride ≡ slab_stride (L.Landed.landing view.now) }
     ensures rise { result.rise ≡ rise (L.Landed.landing view.now) }
-    ensures crosses { result.crosses.at.now ≡ crosses.entry.at.now }
-    ensures heights { result.heights.at.now ≡ heights.entry.at.now }
+    ensures crosses { result.lowest.edges ≡ crosses.entry }
+    ensures heights { result.heights ≡ heights.entry }
 {
     let slabs = view.slabs();
     let across = view.crosses();
@@ -139,10 +144,12 @@ fn slab_of<'a, L: Landed>(
     };
     Slab {
         number,
-        start,
-        stride,
+        lowest: Line {
+            start,
+            stride,
+            edges: crosses,
+        },
         rise: slabs * across,
-        crosses,
         heights,
     }
 }

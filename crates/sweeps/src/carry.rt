@@ -11,9 +11,9 @@ impl Strip<'_> {
     // How far a cell overlaps the stretch.
     fn share(self, cell: usize) -> u64
         requires { cell < strip_cells self }
-        ensures { result ≡ share self.entry.edges.at.now self.entry.over.low self.entry.over.high cell }
+        ensures { result ≡ share self.entry.line.edges.at.now self.entry.over.low self.entry.over.high cell }
     {
-        self.edges.stretch(cell).overlap(self.over)
+        self.line.edges.stretch(cell).overlap(self.over)
     }
 
     // The sum over the strip of the multiples of its values by their overlaps.
@@ -23,7 +23,9 @@ impl Strip<'_> {
     {
         let mut sum = V::ZERO;
         for cell in self.first..self.last {
-            sum = sum.plus(from[self.start + cell * self.stride].multiple(self.share(cell)));
+            sum = sum.plus(from[self.line.start + cell * self.line.stride].multiple(self.share(
+                cell,
+            )));
         }
         sum
     }
@@ -34,7 +36,7 @@ impl Strip<'_> {
         ensures { (p : ℕ) → p < length to.old → at V.Value.ops to.new p ≡ V.Value.ops.plus (at V.Value.ops to.old p) (V.Value.ops.multiple value (strip_share self.entry p)) }
     {
         for cell in self.first..self.last {
-            let place = self.start + cell * self.stride;
+            let place = self.line.start + cell * self.line.stride;
             to[place] = to[place].plus(value.multiple(self.share(cell)));
         }
     }

@@ -42,9 +42,12 @@ impl<V: Value, L: Landed> Crossing<'_, V, L> {
     {
         let cells = self
             .column
-            .cells_over(self.slab.heights.stretch(height), near);
+            .cells
+            .over(self.slab.heights.stretch(height), near);
         if cells.first < cells.last {
-            let voxels = self.voxels.moved(self.slab.start + height * self.slab.rise);
+            let voxels = self
+                .voxels
+                .moved(self.slab.lowest.start + height * self.slab.rise);
             exchange(self.pass, voxels, cells, to);
         }
         cells.first

@@ -7,7 +7,7 @@ pub returns-else-voxels-clause-swept : goal.returns-else-voxels-clause-swept
 returns-else-voxels-clause-swept g c =
     let a = c.args in
     let L = g.L.Landed.landing a.pass.now.view.now in
-    let e = c.voxels_over-voxels.ensures in
+    let e = c.over-voxels.ensures in
     swept_none g.met.V.Value.lawful a.pass.now a.to.now (column_weight L a.slab.number a.column.number)
-    (column_none L a.slab a.column c.requires.slab c.requires.column c.voxels_over-voxels.result
-    (record { stride = e.place.1; edges = e.edges; low = e.stretch.0; high = e.stretch.1 }) c.if-voxels.false)
+    (column_none L a.slab a.column c.requires.slab c.requires.column c.over-voxels.result
+    (record { line = e.line; over = e.over }) c.if-voxels.false)

@@ -4,8 +4,8 @@ use Rattle.sweeps.proofs.Beams.{tabled_rising}
 use Rattle.sweeps.proofs.Blocks.{part_tabled, part_some, block_column}
 use Rattle.sweeps.proofs.block.Block.column.Goals as goal
 
-pub invariant_of-result : goal.invariant_of-result
-invariant_of-result g c =
+pub invariant_of-rows : goal.invariant_of-rows
+invariant_of-rows g c =
     let b = c.args.self.now in
     let d = c.args.offset in
     let L = g.L.Landed.landing b.pass.now.view.now in
@@ -22,5 +22,5 @@ returns-clause-column g c =
     let L = g.L.Landed.landing b.pass.now.view.now in
     let one : SFits w64 (slice_index_or b.columns.now c.args.offset (pos 0)) = search rules in
     let other : SFits w64 (slice_index_or b.columns.now (c.args.offset + 1) (pos 0)) = search rules in
-    block_column L b.first b.count b.stride b.width b.columns.now b.rows.now b.tables c.args.offset c.requires _ refl refl
+    block_column L b.first b.count b.stride b.width b.columns.now b.rows.now b.tables c.args.offset c.requires _ refl refl refl
     (simp to_z-of_z at c.between.ensures.low) (simp to_z-of_z at c.between.ensures.high) refl

@@ -1,4 +1,4 @@
-use Rattle.std.proofs.Common.{◌≡◌, ◌+◌, ◌<◌, length, arith, rules}
+use Rattle.std.proofs.Common.{◌≡◌, ◌+◌, ◌<◌, length, ap, arith, rules}
 use Rattle.sweeps.specs.Tables.{Tabled}
 use Rattle.sweeps.proofs.Beams.{tabled_rising}
 use Rattle.sweeps.proofs.Blocks.{slab_is}
@@ -34,4 +34,4 @@ sweep_columns-requires-clause-slab g c =
     let heights = c.filled-heights.result.now in
     let up : length heights ≡ L.heights + 1 = search rules in
     let W : Tabled heights (L.heights + 1) (L.W number) = (up, λ i h. let below : i < length heights = omega arith in search (rules, c.filled-heights.ensures.edges i below)) in
-    slab_is L number c.slab_of.result c.requires.number e.number e.start e.stride e.rise _ _ e.crosses e.heights U W
+    slab_is L number c.slab_of.result c.requires.number e.number e.start e.stride e.rise _ _ (ap (λ es. es.at.now) e.crosses) (ap (λ es. es.at.now) e.heights) U W

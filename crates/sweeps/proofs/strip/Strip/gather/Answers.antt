@@ -8,18 +8,18 @@ use Rattle.sweeps.proofs.strip.Strip.gather.Goals as goal
 pub loop-cell-init : goal.loop-cell-init
 loop-cell-init g c =
     let s = c.args.self in
-    c.ZERO-sum.ensures ∙ g.met.V.Value.zero_named ∙ sym (gather_none g.met.V.Value.lawful s.start s.stride (share s.edges.at.now s.over.low s.over.high) c.args.from.now s.first c.args.self.covers.before)
+    c.ZERO-sum.ensures ∙ g.met.V.Value.zero_named ∙ sym (gather_none g.met.V.Value.lawful s.line.start s.line.stride (share s.line.edges.at.now s.over.low s.over.high) c.args.from.now s.first c.args.self.covers.before)
 
 pub loop-cell-preserved : goal.loop-cell-preserved
 loop-cell-preserved g c =
     let o = g.V.Value.ops in
     let s = c.args.self in
     let i = c.loop-cell.cell in
-    let within : s.start + i * s.stride < length c.args.from.now = c.requires i (omega arith) in
-    let item = get_or_read c.args.from.now (s.start + i * s.stride) _ within c.index-from-self.is o.zero in
+    let within : s.line.start + i * s.line.stride < length c.args.from.now = c.requires i (omega arith) in
+    let item = get_or_read c.args.from.now (s.line.start + i * s.line.stride) _ within c.index-from-self.is o.zero in
     let added : c.plus-sum.result ≡ o.plus c.loop-cell.sum c.multiple.result = search rules in
     added
-    ∙ gather_more g.met.V.Value.lawful s.start s.stride (share s.edges.at.now s.over.low s.over.high) c.args.from.now i c.loop-cell.sum c.multiple.result
+    ∙ gather_more g.met.V.Value.lawful s.line.start s.line.stride (share s.line.edges.at.now s.over.low s.over.high) c.args.from.now i c.loop-cell.sum c.multiple.result
     within c.loop-cell.invariant (c.multiple.ensures ∙ ap₂ o.multiple item c.share.ensures)
 
 pub returns : goal.returns
@@ -27,5 +27,5 @@ returns g c =
     let s = c.args.self in
     let end : c.loop-cell.cell ≡ s.last = omega arith in
     c.loop-cell.invariant
-    ∙ gather_all g.met.V.Value.lawful s.start s.stride (share s.edges.at.now s.over.low s.over.high) c.args.from.now (strip_cells s) c.loop-cell.cell (omega arith)
+    ∙ gather_all g.met.V.Value.lawful s.line.start s.line.stride (share s.line.edges.at.now s.over.low s.over.high) c.args.from.now (strip_cells s) c.loop-cell.cell (omega arith)
     (λ i a b. c.args.self.covers.after i (omega arith) b)

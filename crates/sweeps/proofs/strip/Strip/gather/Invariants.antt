@@ -9,4 +9,4 @@ abbrev pub invariant-loop-cell : goal.invariant-loop-cell
 invariant-loop-cell g l =
     let o = g.V.Value.ops in
     let s = l.self in
-    l.sum ≡ sum o (length l.from) (λ q. o.multiple (at o l.from q) (laid s.start s.stride (share s.edges.at.now s.over.low s.over.high) l.cell q))
+    l.sum ≡ sum o (length l.from) (λ q. o.multiple (at o l.from q) (laid s.line.start s.line.stride (share s.line.edges.at.now s.over.low s.over.high) l.cell q))

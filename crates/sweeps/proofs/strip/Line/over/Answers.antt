@@ -3,13 +3,13 @@ use borrow.Author.Differences.{ints}
 use Rattle.std.proofs.lemmas.Int.{to_z-of_z}
 use Rattle.sweeps.specs.Runs.{Covers}
 use Rattle.sweeps.proofs.Runs.{before_run, after_run, share_none}
-use Rattle.sweeps.proofs.strip.Strip.over.Goals as goal
-use Rattle.sweeps.proofs.strip.Strip.over.Goals.{then-over, else-over}
+use Rattle.sweeps.proofs.strip.Line.over.Goals as goal
+use Rattle.sweeps.proofs.strip.Line.over.Goals.{then-over, else-over}
 
 pub invariant_of-result : goal.invariant_of-result
 invariant_of-result c =
-    let es = c.args.edges.at.now in
-    let rises = c.args.edges.rises in
+    let es = c.args.self.edges.at.now in
+    let rises = c.args.self.edges.rises in
     let over = c.args.over in
     let fl : SFits w64 over.low = search rules in
     let fh : SFits w64 over.high = search rules in
