@@ -6,8 +6,9 @@ use scan::even::EvenAxis;
 use scan::failure::Failure;
 use scan::listed::ListedAxis;
 use scan::plan::Plan;
+use scan::scan_axis::ScanAxis;
 use std::alloc::Global;
-use std::io;
+use std::{fmt, io};
 use sweeps::backprojection::back;
 use sweeps::projection::forward;
 use sweeps::tally::tally;
@@ -35,10 +36,10 @@ fn planned(heap: Global) -> Result<Plan, Failure> {
 
 // The shadow of voxels that are all 1, in every view.
 fn shadow(heap: Global, plan: &Plan) -> Result<Vec<Count>, Failure> {
-    let volume = vec![in heap; Count::new(1); plan.voxels()]?;
+    let volume = vec![in heap; Count::from(1); plan.voxels()]?;
     let mut working = vec![in heap; Count::ZERO; plan.views() * plan.cells()]?;
     for view in 0..plan.views() {
-        forward(plan, view, Count::new(1), &volume, &mut working)?;
+        forward(plan, view, Count::from(1), &volume, &mut working)?;
     }
     Ok(working)
 }
@@ -54,66 +55,89 @@ fn hits(heap: Global, plan: &Plan) -> Result<usize, Failure> {
     Ok(tally(&volume))
 }
 
+// What a step of the program stopped at, and why.
+#[derive(Drop)]
+struct Stop {
+    what: &'static str,
+    failure: Failure,
+}
+
+impl fmt::Display for Stop {
+    fn fmt<W: fmt::Write>(&self, f: &mut fmt::Formatter<W>) -> fmt::Result {
+        write!(f, "{}: {}.", self.what, self.failure)
+    }
+}
+
+// An outcome that, where it is a failure, says at what.
+fn at<T: Drop>(what: &'static str, made: Result<T, Failure>) -> Result<T, Stop> {
+    made.map_err(|failure| Stop { what, failure })
+}
+
+// A plan, its shadow, and how many voxels are hit.
+#[derive(Drop)]
+struct Outcome {
+    plan: Plan,
+    cells: Vec<Count>,
+    hit: usize,
+}
+
+fn project(heap: Global) -> Result<Outcome, Stop> {
+    let plan = at("The plan", planned(heap))?;
+    let cells = at("Forward", shadow(heap, &plan))?;
+    let hit = at("Back", hits(heap, &plan))?;
+    Ok(Outcome { plan, cells, hit })
+}
+
+// The number of a view at a step. A step past the last is refused, and the draft stays as it was.
+fn numbered(heap: Global, step: i32) -> Result<usize, Stop> {
+    let mut draft = at("The draft", drafted(heap))?;
+    at("A view at a step past the last", draft.add_view(step))
+}
+
 fn print_cells(rt: &impl Print, plan: &Plan, cells: &[Count]) -> io::Result<()> {
-    let columns = plan.columns();
-    let rows = plan.rows();
-    for (place, cell) in cells.iter().enumerate() {
-        let view = place / columns / rows;
-        let row = place / columns % rows;
-        let column = place % columns;
-        let value = cell.shown();
-        println!(rt; "{view} {row} {column} {value}")?;
+    for (view, panel) in cells.chunks(plan.cells()).enumerate() {
+        print_panel(rt, plan, view, panel)?;
     }
     Ok(())
 }
 
-fn print_refusal(rt: &impl Print, what: &str, failure: Failure) -> io::Result<()> {
-    match failure {
-        Failure::Refused(refusal) => {
-            let number = refusal.number();
-            let place = refusal.place();
-            println!(rt; "{what}: refused by {number} at place {place}.")
-        }
-        Failure::Memory => println!(rt; "{what}: there is no memory."),
+fn print_panel(rt: &impl Print, plan: &Plan, view: usize, panel: &[Count]) -> io::Result<()> {
+    for (row, cells) in panel.chunks(plan.cells_along(ScanAxis::Column)).enumerate() {
+        print_row(rt, view, row, cells)?;
     }
+    Ok(())
 }
 
-// A step past the last is refused, and the draft stays as it was.
-fn try_step(rt: &impl Print, heap: Global, step: i32) -> io::Result<()> {
-    match drafted(heap) {
-        Ok(mut draft) => match draft.add_view(step) {
-            Ok(view) => println!(rt; "A view at step {step}: number {view}."),
-            Err(failure) => print_refusal(rt, "A view at a step past the last", failure),
-        },
-        Err(failure) => print_refusal(rt, "The draft", failure),
+fn print_row(rt: &impl Print, view: usize, row: usize, cells: &[Count]) -> io::Result<()> {
+    for (column, cell) in cells.iter().enumerate() {
+        println!(rt; "{view} {row} {column} {cell}")?;
     }
+    Ok(())
 }
 
-fn project(rt: &impl Print, heap: Global, plan: &Plan) -> io::Result<()> {
-    let views = plan.views();
-    let rows = plan.rows();
-    let columns = plan.columns();
-    match (shadow(heap, plan), hits(heap, plan)) {
-        (Ok(cells), Ok(hit)) => {
-            println!(rt; "views {views} rows {rows} columns {columns}")?;
-            print_cells(rt, plan, &cells)?;
-            println!(rt; "hit {hit}")
-        }
-        (Err(failure), _) => print_refusal(rt, "Forward", failure),
-        (_, Err(failure)) => print_refusal(rt, "Back", failure),
-    }
+fn print_outcome(rt: &impl Print, outcome: &Outcome) -> io::Result<()> {
+    let views = outcome.plan.views();
+    let rows = outcome.plan.cells_along(ScanAxis::Row);
+    let columns = outcome.plan.cells_along(ScanAxis::Column);
+    println!(rt; "views {views} rows {rows} columns {columns}")?;
+    print_cells(rt, &outcome.plan, &outcome.cells)?;
+    println!(rt; "hit {}", outcome.hit)
 }
 
 fn main(rt: HostRuntime) -> io::Result<()> {
     println!(rt;
         "Four voxels of 100 units, the source 1000 from the rotation axis, the panel 2000 from the source."
     )?;
-    try_step(&rt, rt.alloc(), 64)?;
+    let step = 64;
+    match numbered(rt.alloc(), step) {
+        Ok(view) => println!(rt; "A view at step {step}: number {view}.")?,
+        Err(stop) => println!(rt; "{stop}")?,
+    }
     println!(rt;
         "Views at steps 0 and 16: sealed. Forward from ones as Count, and back from all cells as Reach:"
     )?;
-    match planned(rt.alloc()) {
-        Ok(plan) => project(&rt, rt.alloc(), &plan),
-        Err(failure) => print_refusal(&rt, "The plan", failure),
+    match project(rt.alloc()) {
+        Ok(outcome) => print_outcome(&rt, &outcome),
+        Err(stop) => println!(rt; "{stop}"),
     }
 }

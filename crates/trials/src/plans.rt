@@ -1,3 +1,4 @@
+use crate::outcomes::refused;
 use scan::axis::Axis;
 use scan::draft::Draft;
 use scan::even::EvenAxis;
@@ -7,22 +8,6 @@ use scan::listed::ListedAxis;
 use scan::refusal::{Refusal, Store};
 use std::alloc::{AllocError, Global};
 use std::test::Fail;
-
-// The number and the place of a refusal, where there is one.
-fn refused<T: Drop>(made: Result<T, Failure>) -> Option<(u8, usize)> {
-    match made {
-        Err(Failure::Refused(e)) => Some((e.number(), e.place())),
-        _ => None,
-    }
-}
-
-// The same of a call that can only be refused.
-fn turned_down<T: Drop>(made: Result<T, Refusal>) -> Option<(u8, usize)> {
-    match made {
-        Err(refusal) => Some((refusal.number(), refusal.place())),
-        Ok(_) => None,
-    }
-}
 
 // A draft of two cells along each axis; `last` is the last edge of the columns.
 fn draft(heap: Global, source: i32, panel: i32, last: i32) -> Result<Draft, Failure> {
@@ -34,11 +19,7 @@ fn draft(heap: Global, source: i32, panel: i32, last: i32) -> Result<Draft, Fail
 
 // Edges 0, 1, 2, .., so many.
 fn edges(heap: Global, many: i32) -> Result<Vec<i32>, AllocError> {
-    let mut edges = Vec::new(heap);
-    for edge in 0..many {
-        edges.push(edge)?;
-    }
-    Ok(edges)
+    (0..many).collect(heap)
 }
 
 #[test]
@@ -97,10 +78,10 @@ fn even_axes(rt: HostRuntime) -> Result<(), Fail> {
     let even = EvenAxis::new(-6, 4, 3)?;
     assert_eq!(rt; (even.cells(), even.edge(0), even.edge(9)), (3, -6, 6));
     assert_eq!(rt; EvenAxis::new(0, 1, 512)?.cells(), 512);
-    assert_eq!(rt; turned_down(EvenAxis::new(0, 1, 513)), Some((2, 0)));
-    assert_eq!(rt; turned_down(EvenAxis::new(0, 1, 0)), Some((2, 0)));
-    assert_eq!(rt; turned_down(EvenAxis::new(4_194_300, 2, 3)), Some((5, 3)));
-    assert_eq!(rt; turned_down(EvenAxis::new(0, 0, 3)), Some((4, 1)));
+    assert_eq!(rt; refused(EvenAxis::new(0, 1, 513)), Some((2, 0)));
+    assert_eq!(rt; refused(EvenAxis::new(0, 1, 0)), Some((2, 0)));
+    assert_eq!(rt; refused(EvenAxis::new(4_194_300, 2, 3)), Some((5, 3)));
+    assert_eq!(rt; refused(EvenAxis::new(0, 0, 3)), Some((4, 1)));
     Ok(())
 }
 

@@ -1,11 +1,11 @@
 // The figures are those of tools/oracle.txt, which a program made apart from the library writes.
+use crate::outcomes::refused;
 use scan::axis::Axis;
 use scan::draft::Draft;
 use scan::even::EvenAxis;
 use scan::failure::Failure;
 use scan::listed::ListedAxis;
 use scan::plan::Plan;
-use scan::refusal::Refusal;
 use std::alloc::{AllocError, Global};
 use std::test::Fail;
 use sweeps::backprojection::back;
@@ -17,17 +17,22 @@ use values::pair::Pair;
 use values::reach::Reach;
 use values::value::Value;
 
+// The plan of a draft that is seen from some steps.
+fn viewed(mut draft: Draft, steps: &[i32]) -> Result<Plan, Failure> {
+    for &step in steps {
+        draft.add_view(step)?;
+    }
+    Ok(draft.seal())
+}
+
 // Two by two voxels, one row and two columns.
 fn small(heap: Global, steps: &[i32]) -> Result<Plan, Failure> {
     let side = ListedAxis::new(heap, &[-100, 0, 100])?;
     let z = ListedAxis::new(heap, &[-50, 50])?;
     let column = ListedAxis::new(heap, &[-200, 0, 200])?;
     let row = ListedAxis::new(heap, &[-100, 100])?;
-    let mut draft = Draft::new(heap, 1000, 2000, &side, &side, &z, &column, &row)?;
-    for step in steps {
-        draft.add_view(*step)?;
-    }
-    Ok(draft.seal())
+    let draft = Draft::new(heap, 1000, 2000, &side, &side, &z, &column, &row)?;
+    viewed(draft, steps)
 }
 
 // Three by two by two voxels of uneven widths, and two rows of some columns.
@@ -36,47 +41,33 @@ fn uneven_before<C: Axis>(heap: Global, column: &C, steps: &[i32]) -> Result<Pla
     let y = ListedAxis::new(heap, &[-90, 0, 30])?;
     let z = ListedAxis::new(heap, &[-50, 10, 50])?;
     let row = ListedAxis::new(heap, &[-100, 0, 100])?;
-    let mut draft = Draft::new(heap, 1000, 2000, &x, &y, &z, column, &row)?;
-    for step in steps {
-        draft.add_view(*step)?;
-    }
-    Ok(draft.seal())
+    let draft = Draft::new(heap, 1000, 2000, &x, &y, &z, column, &row)?;
+    viewed(draft, steps)
 }
 
-// Three by two by two voxels and two rows of three columns, of uneven widths, seen from steps 5 and 20.
+// The same voxels and rows, with three columns of uneven widths, seen from steps 5 and 20.
 fn uneven(heap: Global) -> Result<Plan, Failure> {
-    let x = ListedAxis::new(heap, &[-100, -20, 50, 100])?;
-    let y = ListedAxis::new(heap, &[-90, 0, 30])?;
-    let z = ListedAxis::new(heap, &[-50, 10, 50])?;
     let column = ListedAxis::new(heap, &[-200, -50, 60, 200])?;
-    let row = ListedAxis::new(heap, &[-100, 0, 100])?;
-    let mut draft = Draft::new(heap, 1000, 2000, &x, &y, &z, &column, &row)?;
-    draft.add_view(5)?;
-    draft.add_view(20)?;
-    Ok(draft.seal())
+    uneven_before(heap, &column, &[5, 20])
+}
+
+// What a function makes of each item.
+fn mapped<T: Copy, U: Drop, F: Fn(T) -> U>(
+    heap: Global,
+    items: &[T],
+    f: F,
+) -> Result<Vec<U>, AllocError>
+    requires { F.IsAlwaysCallable f }
+{
+    items.iter().map(|&item| f(item)).collect(heap)
 }
 
 fn counts(heap: Global, numbers: &[i64]) -> Result<Vec<Count>, AllocError> {
-    let mut store = Vec::new(heap);
-    for number in numbers {
-        store.push(Count::new(*number))?;
-    }
-    Ok(store)
+    mapped(heap, numbers, Count::from)
 }
 
 fn shown(heap: Global, store: &[Count]) -> Result<Vec<i64>, AllocError> {
-    let mut numbers = Vec::new(heap);
-    for value in store {
-        numbers.push(value.shown())?;
-    }
-    Ok(numbers)
-}
-
-fn number(answer: Result<(), Refusal>) -> Option<(u8, usize)> {
-    match answer {
-        Ok(()) => None,
-        Err(refusal) => Some((refusal.number(), refusal.place())),
-    }
+    mapped(heap, store, i64::from)
 }
 
 #[test]
@@ -84,12 +75,12 @@ fn worked_plan(rt: HostRuntime) -> Result<(), Fail> {
     let heap = rt.alloc();
     let plan = small(heap, &[0, 16])?;
     let ones = counts(heap, &[1, 1, 1, 1])?;
-    let mut working = counts(heap, &[0, 0, 0, 0])?;
-    forward(&plan, 0, Count::new(1), &ones, &mut working)?;
-    forward(&plan, 1, Count::new(1), &ones, &mut working)?;
+    let mut working = vec![in heap; Count::ZERO; 4]?;
+    forward(&plan, 0, Count::from(1), &ones, &mut working)?;
+    forward(&plan, 1, Count::from(1), &ones, &mut working)?;
     assert_eq!(rt; shown(heap, &working)?, worked_cells().to_vec(heap)?);
-    let mut volume = counts(heap, &[0, 0, 0, 0])?;
-    back(&plan, 0, Count::new(1), &mut volume, &ones)?;
+    let mut volume = vec![in heap; Count::ZERO; 4]?;
+    back(&plan, 0, Count::from(1), &mut volume, &ones)?;
     assert_eq!(rt;
         shown(heap, &volume)?,
         [9120, 9025, 10000, 10000].to_vec(heap)?
@@ -101,27 +92,27 @@ fn worked_plan(rt: HostRuntime) -> Result<(), Fail> {
 fn refused_calls(rt: HostRuntime) -> Result<(), Fail> {
     let heap = rt.alloc();
     let plan = small(heap, &[0, 16])?;
-    let one = Count::new(1);
+    let one = Count::from(1);
     let mut four = counts(heap, &[5, 6, 7, 8])?;
     let mut three = counts(heap, &[5, 6, 7])?;
     assert_eq!(rt;
-        number(forward(&plan, 2, one, &three, &mut four)),
+        refused(forward(&plan, 2, one, &three, &mut four)),
         Some((22, 0))
     );
     assert_eq!(rt;
-        number(forward(&plan, 1, one, &three, &mut four)),
+        refused(forward(&plan, 1, one, &three, &mut four)),
         Some((23, 0))
     );
     assert_eq!(rt;
-        number(back(&plan, 2, one, &mut three, &four)),
+        refused(back(&plan, 2, one, &mut three, &four)),
         Some((22, 0))
     );
     assert_eq!(rt;
-        number(back(&plan, 0, one, &mut three, &four)),
+        refused(back(&plan, 0, one, &mut three, &four)),
         Some((23, 0))
     );
     assert_eq!(rt;
-        number(back(&plan, 0, one, &mut four, &three)),
+        refused(back(&plan, 0, one, &mut four, &three)),
         Some((23, 0))
     );
     assert_eq!(rt; shown(heap, &four)?, [5, 6, 7, 8].to_vec(heap)?);
@@ -135,12 +126,12 @@ fn slabs_along_x(rt: HostRuntime) -> Result<(), Fail> {
     let plan = small(heap, &[20])?;
     let mut volume = counts(heap, &[1, 2, 3, 4])?;
     let mut working = counts(heap, &[5, 5])?;
-    forward(&plan, 0, Count::new(3), &volume, &mut working)?;
+    forward(&plan, 0, Count::from(3), &volume, &mut working)?;
     assert_eq!(rt; shown(heap, &working)?, [95129, 176351].to_vec(heap)?);
     back(
         &plan,
         0,
-        Count::new(3),
+        Count::from(3),
         &mut volume,
         &counts(heap, &[7, -2])?,
     )?;
@@ -156,8 +147,8 @@ fn uneven_cells(rt: HostRuntime) -> Result<(), Fail> {
     let heap = rt.alloc();
     let plan = uneven(heap)?;
     let volume = counts(heap, &[1, 2, 5, 10, 17, 26, 37, 50, 65, 82, 101, 122])?;
-    let mut working = counts(heap, &[0, 0, 0, 0, 0, 0, 0, 0, 0, 0, 0, 0])?;
-    forward(&plan, 1, Count::new(-1), &volume, &mut working)?;
+    let mut working = vec![in heap; Count::ZERO; 12]?;
+    forward(&plan, 1, Count::from(-1), &volume, &mut working)?;
     assert_eq!(rt;
         shown(heap, &working)?,
         [
@@ -168,24 +159,24 @@ fn uneven_cells(rt: HostRuntime) -> Result<(), Fail> {
     Ok(())
 }
 
-// Each Count with twice itself plus 1 beside it.
-fn paired(heap: Global, numbers: &[i64]) -> Result<Vec<Pair>, AllocError> {
-    let mut store = Vec::new(heap);
-    for number in numbers {
-        store.push(Pair {
-            first: Count::new(*number),
-            second: Count::new(number.wrapping_mul(2).wrapping_add(1)),
-        })?;
+fn pair(first: i64, second: i64) -> Pair {
+    Pair {
+        first: Count::from(first),
+        second: Count::from(second),
     }
-    Ok(store)
+}
+
+// Each number with twice itself plus 1 beside it.
+fn paired(heap: Global, numbers: &[i64]) -> Result<Vec<Pair>, AllocError> {
+    mapped(heap, numbers, |number: i64| {
+        pair(number, number.wrapping_mul(2).wrapping_add(1))
+    })
 }
 
 fn parts(heap: Global, store: &[Pair]) -> Result<Vec<(i64, i64)>, AllocError> {
-    let mut numbers = Vec::new(heap);
-    for value in store {
-        numbers.push((value.first.shown(), value.second.shown()))?;
-    }
-    Ok(numbers)
+    mapped(heap, store, |pair: Pair| {
+        (i64::from(pair.first), i64::from(pair.second))
+    })
 }
 
 #[test]
@@ -194,10 +185,7 @@ fn pairs(rt: HostRuntime) -> Result<(), Fail> {
     let plan = uneven(heap)?;
     let volume = paired(heap, &[1, 2, 5, 10, 17, 26, 37, 50, 65, 82, 101, 122])?;
     let mut working = vec![in heap; Pair::ZERO; 12]?;
-    let minus = Pair {
-        first: Count::new(-1),
-        second: Count::new(-1),
-    };
+    let minus = pair(-1, -1);
     forward(&plan, 0, minus, &volume, &mut working)?;
     let zero = (0, 0);
     let cells = [
@@ -222,10 +210,7 @@ fn pairs(rt: HostRuntime) -> Result<(), Fail> {
 fn pairs_back(rt: HostRuntime) -> Result<(), Fail> {
     let heap = rt.alloc();
     let plan = uneven(heap)?;
-    let minus = Pair {
-        first: Count::new(-1),
-        second: Count::new(-1),
-    };
+    let minus = pair(-1, -1);
     let cells = paired(heap, &[9, 11, 13, 15, 17, 19, 0, 0, 0, 0, 0, 0])?;
     let mut volume = vec![in heap; Pair::ZERO; 12]?;
     back(&plan, 0, minus, &mut volume, &cells)?;
@@ -269,7 +254,7 @@ fn many_columns(rt: HostRuntime) -> Result<(), Fail> {
     let plan = uneven_before(heap, &EvenAxis::new(-180, 20, 18)?, &[40])?;
     let volume = counts(heap, &[1, 2, 5, 10, 17, 26, 37, 50, 65, 82, 101, 122])?;
     let mut working = vec![in heap; Count::ZERO; 36]?;
-    forward(&plan, 0, Count::new(2), &volume, &mut working)?;
+    forward(&plan, 0, Count::from(2), &volume, &mut working)?;
     assert_eq!(rt;
         shown(heap, &working[0..18])?,
         [
@@ -293,12 +278,11 @@ fn many_columns(rt: HostRuntime) -> Result<(), Fail> {
 fn many_columns_back(rt: HostRuntime) -> Result<(), Fail> {
     let heap = rt.alloc();
     let plan = uneven_before(heap, &EvenAxis::new(-180, 20, 18)?, &[40])?;
-    let mut cells = Vec::new(heap);
-    for number in 1..37 {
-        cells.push(Count::new(number))?;
-    }
+    let cells: Vec<Count> = (1..37)
+        .map(|number: i64| Count::from(number))
+        .collect(heap)?;
     let mut volume = vec![in heap; Count::ZERO; 12]?;
-    back(&plan, 0, Count::new(2), &mut volume, &cells)?;
+    back(&plan, 0, Count::from(2), &mut volume, &cells)?;
     let expected = [
         171012, 135392, 64368, 140204, 80058, 31700, 205368, 181208, 102438, 187980, 134136, 76384,
     ];

@@ -1,0 +1,173 @@
+// What is printed of counts, refusals, failures and steps that there are not, and how counts convert.
+use geometry::no_step::NoStep;
+use scan::failure::Failure;
+use scan::refusal::{Refusal, Store};
+use std::alloc::AllocError;
+use std::test::Fail;
+use values::count::Count;
+
+// The least and the greatest number that a Count is shown as.
+const ENDS: [i64; 2] = [i64::MIN, i64::MAX];
+
+#[test]
+fn counts_to_numbers_and_back(rt: HostRuntime) {
+    assert_eq!(rt; Count::from(0), Count { bits: 0 });
+    assert_eq!(rt; Count::from(7), Count { bits: 7 });
+    assert_eq!(rt;
+        Count::from(-1),
+        Count {
+            bits: 18_446_744_073_709_551_615
+        }
+    );
+    assert_eq!(rt;
+        ENDS.map(|number| Count::from(number).bits),
+        [9_223_372_036_854_775_808, 9_223_372_036_854_775_807]
+    );
+    assert_eq!(rt;
+        i64::from(Count {
+            bits: 18_446_744_073_709_551_614
+        }),
+        -2
+    );
+    assert_eq!(rt; ENDS.map(|number| i64::from(Count::from(number))), ENDS);
+}
+
+#[test]
+fn texts_of_counts(rt: HostRuntime) -> Result<(), Fail> {
+    let heap = rt.alloc();
+    for (number, text) in [
+        (0, "0"),
+        (19_120, "19120"),
+        (-1, "-1"),
+        (-28_840, "-28840"),
+        (ENDS[0], "-9223372036854775808"),
+        (ENDS[1], "9223372036854775807"),
+    ] {
+        assert_eq!(rt; Count::from(number).to_string(heap)?.as_str(), text);
+    }
+    Ok(())
+}
+
+#[test]
+fn texts_of_refused_axes(rt: HostRuntime) -> Result<(), Fail> {
+    let heap = rt.alloc();
+    for (refusal, text) in [
+        (
+            Refusal::Count {
+                found: 514,
+                least: 2,
+                most: 513,
+            },
+            "refused by 2 at place 0",
+        ),
+        (
+            Refusal::NotRising {
+                edge: 12,
+                before: 3,
+                at: 3,
+            },
+            "refused by 4 at place 12",
+        ),
+        (
+            Refusal::OutOfRange {
+                edge: 512,
+                at: 4_194_305,
+            },
+            "refused by 5 at place 512",
+        ),
+    ] {
+        assert_eq!(rt; refusal.to_string(heap)?.as_str(), text);
+    }
+    Ok(())
+}
+
+#[test]
+fn texts_of_refused_drafts(rt: HostRuntime) -> Result<(), Fail> {
+    let heap = rt.alloc();
+    for (refusal, text) in [
+        (Refusal::SourceDistance { at: 0 }, "refused by 6 at place 0"),
+        (
+            Refusal::PanelDistance {
+                at: 999,
+                source: 1000,
+            },
+            "refused by 6 at place 1",
+        ),
+        (
+            Refusal::SourceTooNear {
+                source: 200,
+                widest: 100,
+            },
+            "refused by 7 at place 0",
+        ),
+        (
+            Refusal::ColumnBeyond {
+                edge: 2,
+                at: 2000,
+                panel: 2000,
+            },
+            "refused by 8 at place 2",
+        ),
+    ] {
+        assert_eq!(rt; refusal.to_string(heap)?.as_str(), text);
+    }
+    Ok(())
+}
+
+#[test]
+fn texts_of_refused_calls(rt: HostRuntime) -> Result<(), Fail> {
+    let heap = rt.alloc();
+    for (refusal, text) in [
+        (
+            Refusal::StepOutOfRange { step: 64 },
+            "refused by 9 at place 0",
+        ),
+        (
+            Refusal::DraftFull { views: 1024 },
+            "refused by 21 at place 0",
+        ),
+        (
+            Refusal::NoView { view: 3, views: 3 },
+            "refused by 22 at place 0",
+        ),
+        (
+            Refusal::StoreLength {
+                store: Store::Volume,
+                found: 3,
+                wanted: 4,
+            },
+            "refused by 23 at place 0",
+        ),
+    ] {
+        assert_eq!(rt; refusal.to_string(heap)?.as_str(), text);
+    }
+    Ok(())
+}
+
+#[test]
+fn texts_of_failures(rt: HostRuntime) -> Result<(), Fail> {
+    let heap = rt.alloc();
+    let refused = Failure::from(Refusal::PanelDistance {
+        at: 999,
+        source: 1000,
+    });
+    assert_eq!(rt;
+        refused.to_string(heap)?.as_str(),
+        "refused by 6 at place 1"
+    );
+    let memory = Failure::from(AllocError);
+    assert_eq!(rt; memory.to_string(heap)?.as_str(), "there is no memory");
+    Ok(())
+}
+
+#[test]
+fn texts_of_no_steps(rt: HostRuntime) -> Result<(), Fail> {
+    let heap = rt.alloc();
+    for (number, text) in [
+        (64, "no step of the turn has the number 64"),
+        (-1, "no step of the turn has the number -1"),
+    ] {
+        assert_eq!(rt; NoStep { number }.to_string(heap)?.as_str(), text);
+    }
+    Ok(())
+}
