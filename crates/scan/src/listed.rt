@@ -58,9 +58,7 @@ impl ListedAxis {
             edges: edges_of(heap, axis)?,
         })
     }
-}
 
-impl ListedAxis {
     // The edge of a number, where a number past the last stands for the last.
     pub(crate) fn edge_at(&self, i: usize) -> Edge
         ensures { result.at ≡ edge_of self.now.edges.items i }

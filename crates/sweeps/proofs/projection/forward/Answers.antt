@@ -1,14 +1,7 @@
-use Rattle.std.proofs.Common.{◌≤◌, length, sym, arith, rules}
-use borrow.Author.Rules.{scaled_fits≤}
+use Rattle.std.proofs.Common.{sym}
 use Rattle.scan.specs.Meanings.{plan_of}
 use Rattle.sweeps.proofs.CallFacts.{volume_sized, part_sized, forward_leaves}
 use Rattle.sweeps.proofs.projection.forward.Goals as goal
-
-pub offset_bounds-working-call : goal.offset_bounds-working-call
-offset_bounds-working-call g c =
-    let h = c.in_ok-call.ensures.within in
-    let le : c.in_ok-call.call.start ≤ length c.args.working.now = omega arith in
-    search (rules, scaled_fits≤)
 
 pub sweep-requires : goal.sweep-requires
 sweep-requires g c =
