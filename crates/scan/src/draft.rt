@@ -22,7 +22,7 @@ pub struct Draft {
 
 impl Draft {
     // A draft with no views: how far the source and the panel stand, and the axes of the volume and of the panel.
-    // Checks 6 for D, 6 for F, 7, 8.
+    // Checks 6 for D, 6 for F, 7, 8. The axes are no struct of five, since each may be of a type of its own.
     pub fn new<X: Axis, Y: Axis, Z: Axis, C: Axis, R: Axis>(
         heap: Global,
         source: i32,

@@ -26,6 +26,7 @@ impl Edges for Spaced {
     }
 
     fn get(&self, i: usize) -> i64 {
+        // `as` for i, since i64 has no From<usize>.
         i64::from(self.first) + i as i64 * i64::from(self.pitch)
     }
 }
@@ -62,6 +63,7 @@ impl Axis for EvenAxis {
     }
 
     fn edge(&self, i: usize) -> i32 {
+        // The cast loses nothing: each edge lies within 4,194,304 of 0.
         self.spaced.get(i.min(self.spaced.cells)) as i32
     }
 }
