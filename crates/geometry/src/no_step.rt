@@ -19,6 +19,7 @@ impl TryFrom<i32> for Step {
     fn try_from(number: i32) -> Result<Step, NoStep> {
         if (0..=LAST_STEP).contains(&number) {
             Ok(Step {
+                // `as`, since the test above is all that `try_from` would do again.
                 number: number as usize,
             })
         } else {

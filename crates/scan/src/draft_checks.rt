@@ -9,6 +9,7 @@ use crate::refusal::Refusal;
 use geometry::distances::{Distances, FARTHEST_PANEL, FARTHEST_SOURCE};
 use geometry::step::Step;
 
+// No `TryFrom`: it is made of two numbers, each with a refusal of its own.
 // Refuses D, from the source to the rotation axis, out of its range (6), and then F, from the source to the panel (6).
 pub(crate) fn distances_of(source: i32, panel: i32) -> Result<Distances, Refusal>
     ensures { Verdict (distances_check source panel) (λ d. (d.source ≡ source) × (d.panel ≡ panel)) result }

@@ -75,7 +75,7 @@ pub enum Refusal {
 }
 
 impl Refusal {
-    // The number of the condition.
+    // The number of the condition: a number, since that is what users look up.
     pub fn number(&self) -> u8
         ensures { result ≡ number self.now }
     {

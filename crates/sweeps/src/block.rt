@@ -46,6 +46,7 @@ impl<'a, V: Value, L: Landed> Block<'a, V, L> {
         ensures { Swept V.Value.ops self.now.pass.now (slab_weight (L.Landed.landing self.now.pass.now.view.now) self.now.first self.now.count number) to.old to.new }
     {
         let view = self.pass.view;
+        // Arrays on the stack: a sweep allocates nothing.
         let mut crosses = [0i64; MOST_EDGES];
         let mut heights = [0i64; MOST_EDGES];
         let crosses = filled(&mut crosses[0..view.crosses() + 1], |i| {
@@ -66,6 +67,7 @@ impl<'a, V: Value, L: Landed> Block<'a, V, L> {
         ensures { Swept V.Value.ops self.now.pass.now (slab_weight (L.Landed.landing self.now.pass.now.view.now) self.now.first self.now.count slab.entry.number) to.old to.new }
     {
         let mut near = 0;
+        // The run found for one column is where the next one's search begins.
         for offset in 0..self.count {
             near = sweep_column(self.pass, slab, self.column(offset), near, to);
         }

@@ -22,10 +22,10 @@ impl Strip<'_> {
         ensures { result ≡ sum V.Value.ops (length from.now) (λ q. V.Value.ops.multiple (at V.Value.ops from.now q) (strip_share self.entry q)) }
     {
         let mut sum = V::ZERO;
+        // The number of a cell gives its place and its share: a chain would count it too, and be no plainer.
         for cell in self.first..self.last {
-            sum = sum.plus(from[self.line.start + cell * self.line.stride].multiple(self.share(
-                cell,
-            )));
+            let place = self.line.start + cell * self.line.stride;
+            sum = sum.plus(from[place].multiple(self.share(cell)));
         }
         sum
     }
@@ -35,6 +35,7 @@ impl Strip<'_> {
         requires { Inside self (length to.old) }
         ensures { (p : ℕ) → p < length to.old → at V.Value.ops to.new p ≡ V.Value.ops.plus (at V.Value.ops to.old p) (V.Value.ops.multiple value (strip_share self.entry p)) }
     {
+        // As in `gather`.
         for cell in self.first..self.last {
             let place = self.line.start + cell * self.line.stride;
             to[place] = to[place].plus(value.multiple(self.share(cell)));

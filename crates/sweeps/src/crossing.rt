@@ -59,6 +59,7 @@ fn exchange<V: Value, L>(pass: &Pass<'_, V, L>, voxels: Strip<'_>, cells: Strip<
     requires { Placed pass.now.way voxels cells (length pass.now.from.now) (length to.old) }
     ensures { Swept V.Value.ops pass.now (λ x c. strip_share voxels.entry x * strip_share cells.entry c) to.old to.new }
 {
+    // No closure: the way is named by every contract, and only says which strip is read.
     match pass.way {
         Way::Forward => carry(pass.factor, pass.from, voxels, to, cells),
         Way::Back => carry(pass.factor, pass.from, cells, to, voxels),

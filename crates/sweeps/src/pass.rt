@@ -9,7 +9,8 @@ pub(crate) enum Way {
     Back,
 }
 
-// One sweep of a view: what it reads, and the factor.
+// One sweep of a view: what it reads, and the factor. What it writes to is passed beside it, with the clause `Sized`: a
+// pass that lent the target too would have to promise in every function that takes it that all else in it stays.
 #[derive(Drop)]
 pub(crate) struct Pass<'a, V, L> {
     pub(crate) view: &'a L,

@@ -16,7 +16,7 @@ loop-cell-preserved g c =
     let s = c.args.self in
     let i = c.loop-cell.cell in
     let within : s.line.start + i * s.line.stride < length c.args.from.now = c.requires i (omega arith) in
-    let item = get_or_read c.args.from.now (s.line.start + i * s.line.stride) _ within c.index-from-self.is o.zero in
+    let item = get_or_read c.args.from.now (s.line.start + i * s.line.stride) _ within c.index-from-place.is o.zero in
     let added : c.plus-sum.result ≡ o.plus c.loop-cell.sum c.multiple.result = search rules in
     added
     ∙ gather_more g.met.V.Value.lawful s.line.start s.line.stride (share s.line.edges.at.now s.over.low s.over.high) c.args.from.now i c.loop-cell.sum c.multiple.result
