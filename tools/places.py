@@ -16,7 +16,7 @@ POINTS = {
     "3 loops": r"^\s*(?:while|for) ",
     "4 conversions and printing": r"\bas (?:[iu](?:8|16|32|64|128)|[iu]size)\b|fn (?:new|shown|distances_of|check_view|edge_at|cell_at|print_\w+)\(",
     "6 tables and slices of numbers": r"\[0i64; |&(?:'a )?(?:mut )?\[i64\]",
-    "7 choices of a step": r"^\s*(?:\w+ => )?match ",
+    "7 choices of a step": r"^\s*(?:\w+ => |let .* = )?match ",
 }
 FUNCTION = re.compile(r"^( *)(?:pub(?:\(crate\))? )?fn (\w+)")
 

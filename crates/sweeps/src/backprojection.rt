@@ -23,6 +23,7 @@ pub fn back<V: Value>(
     ensures answer { result_err result ≡ call_check (system_of (plan_of plan.now)) view (length volume.old) (length working.now) }
     ensures volume { volume.new ≡ unless_refused (call_check (system_of (plan_of plan.now)) view (length volume.old) (length working.now)) (back V.Value.ops (system_of (plan_of plan.now)) view factor working.now volume.old) volume.old }
 {
+    // As `forward`, with the stores exchanged: two calls, since each is lent what the other writes.
     let call = checked(plan, view, volume.len(), working.len())?;
     let cells = &working[call.start..call.start + call.cells];
     let pass = Pass {

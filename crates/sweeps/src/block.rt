@@ -1,5 +1,4 @@
-ghost use Rattle.std.specs.Prelude.{◌≡◌, ◌+◌, ◌-◌, ◌*◌, ◌<◌, ◌≤◌, length, take, drop, pos, slice_index_or};
-ghost use Rattle.std.specs.Int.{int_min, int_max};
+ghost use Rattle.std.specs.Prelude.{◌≡◌, ◌+◌, ◌-◌, ◌<◌, length};
 ghost use Rattle.sweeps.specs.Passes.{Sized, Swept, column_weight, slab_weight, block_weight, slab_start, slab_stride, rise, SlabOf, ColumnOf, BlockOf};
 
 use crate::crossing::Crossing;
@@ -15,24 +14,23 @@ use values::value::Value;
 // The most edges that an axis has.
 const MOST_EDGES: usize = 513;
 
-// Some columns of a view side by side, with the landed edges of them and of their rows, `width` for each column.
+// Some columns of a view side by side, from `first` on: their landed edges, and those of their rows, `width` for each.
 #[derive(Drop)]
 pub(crate) struct Block<'a, V, L: Landed> {
     pub(crate) pass: &'a Pass<'a, V, L>,
     pub(crate) first: usize,
-    pub(crate) count: usize,
     pub(crate) stride: usize,
     pub(crate) width: usize,
     pub(crate) columns: &'a [i64],
     pub(crate) rows: &'a [i64],
-    ghost tables: { BlockOf (L.Landed.landing pass.now.view.now) first count stride width columns.now rows.now },
+    ghost tables: { BlockOf (L.Landed.landing pass.now.view.now) first (length columns.now - 1) stride width columns.now rows.now },
 }
 
 impl<'a, V: Value, L: Landed> Block<'a, V, L> {
     // Slab after slab.
     pub(crate) fn sweep(&self, to: &mut [V])
         requires { Sized (L.Landed.landing self.now.pass.now.view.now) self.now.pass.now (length to.old) }
-        ensures { Swept V.Value.ops self.now.pass.now (block_weight (L.Landed.landing self.now.pass.now.view.now) self.now.first self.now.count) to.old to.new }
+        ensures { Swept V.Value.ops self.now.pass.now (block_weight (L.Landed.landing self.now.pass.now.view.now) self.now.first (length self.now.columns.now - 1)) to.old to.new }
     {
         for number in 0..self.pass.view.slabs() {
             self.sweep_slab(number, to);
@@ -43,7 +41,7 @@ impl<'a, V: Value, L: Landed> Block<'a, V, L> {
     fn sweep_slab(&self, number: usize, to: &mut [V])
         requires sized { Sized (L.Landed.landing self.now.pass.now.view.now) self.now.pass.now (length to.old) }
         requires number { number < (L.Landed.landing self.now.pass.now.view.now).slabs }
-        ensures { Swept V.Value.ops self.now.pass.now (slab_weight (L.Landed.landing self.now.pass.now.view.now) self.now.first self.now.count number) to.old to.new }
+        ensures { Swept V.Value.ops self.now.pass.now (slab_weight (L.Landed.landing self.now.pass.now.view.now) self.now.first (length self.now.columns.now - 1) number) to.old to.new }
     {
         let view = self.pass.view;
         // Arrays on the stack: a sweep allocates nothing.
@@ -64,18 +62,18 @@ impl<'a, V: Value, L: Landed> Block<'a, V, L> {
     fn sweep_columns(&self, slab: Slab<'_>, to: &mut [V])
         requires sized { Sized (L.Landed.landing self.now.pass.now.view.now) self.now.pass.now (length to.old) }
         requires slab { SlabOf (L.Landed.landing self.now.pass.now.view.now) slab }
-        ensures { Swept V.Value.ops self.now.pass.now (slab_weight (L.Landed.landing self.now.pass.now.view.now) self.now.first self.now.count slab.entry.number) to.old to.new }
+        ensures { Swept V.Value.ops self.now.pass.now (slab_weight (L.Landed.landing self.now.pass.now.view.now) self.now.first (length self.now.columns.now - 1) slab.entry.number) to.old to.new }
     {
         let mut near = 0;
         // The run found for one column is where the next one's search begins.
-        for offset in 0..self.count {
+        for offset in 0..self.columns.len() - 1 {
             near = sweep_column(self.pass, slab, self.column(offset), near, to);
         }
     }
 
     // A column by its number in the block.
     fn column(&self, offset: usize) -> Column<'a>
-        requires { offset < self.now.count }
+        requires { offset < length self.now.columns.now - 1 }
         ensures number { result.number ≡ self.now.first + offset }
         ensures column { ColumnOf (L.Landed.landing self.now.pass.now.view.now) result }
     {
@@ -106,9 +104,7 @@ fn sweep_column<V: Value, L: Landed>(
     requires sized { Sized (L.Landed.landing pass.now.view.now) pass.now (length to.old) }
     requires slab { SlabOf (L.Landed.landing pass.now.view.now) slab }
     requires column { ColumnOf (L.Landed.landing pass.now.view.now) column }
-    requires near { near ≤ (L.Landed.landing pass.now.view.now).crosses }
-    ensures near { result ≤ (L.Landed.landing pass.now.view.now).crosses }
-    ensures swept { Swept V.Value.ops pass.now (column_weight (L.Landed.landing pass.now.view.now) slab.entry.number column.entry.number) to.old to.new }
+    ensures { Swept V.Value.ops pass.now (column_weight (L.Landed.landing pass.now.view.now) slab.entry.number column.entry.number) to.old to.new }
 {
     let voxels = slab.lowest.over(column.over, near);
     if voxels.first < voxels.last {

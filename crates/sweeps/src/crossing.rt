@@ -1,4 +1,4 @@
-ghost use Rattle.std.specs.Prelude.{◌≡◌, ◌*◌, ◌<◌, ◌≤◌, length};
+ghost use Rattle.std.specs.Prelude.{◌*◌, ◌<◌, length};
 ghost use Rattle.sweeps.specs.Strips.{strip_share};
 ghost use Rattle.sweeps.specs.Passes.{Sized, Swept, Placed, beam_weight, column_weight, SlabOf, ColumnOf, Meets};
 
@@ -36,9 +36,7 @@ impl<V: Value, L: Landed> Crossing<'_, V, L> {
     fn sweep_height(&self, height: usize, near: usize, to: &mut [V]) -> usize
         requires sized { Sized (L.Landed.landing self.now.pass.now.view.now) self.now.pass.now (length to.old) }
         requires height { height < (L.Landed.landing self.now.pass.now.view.now).heights }
-        requires near { near ≤ (L.Landed.landing self.now.pass.now.view.now).rows }
-        ensures near { result ≤ (L.Landed.landing self.now.pass.now.view.now).rows }
-        ensures swept { Swept V.Value.ops self.now.pass.now (beam_weight (L.Landed.landing self.now.pass.now.view.now) self.now.slab.number self.now.column.number height) to.old to.new }
+        ensures { Swept V.Value.ops self.now.pass.now (beam_weight (L.Landed.landing self.now.pass.now.view.now) self.now.slab.number self.now.column.number height) to.old to.new }
     {
         let cells = self
             .column
@@ -59,7 +57,7 @@ fn exchange<V: Value, L>(pass: &Pass<'_, V, L>, voxels: Strip<'_>, cells: Strip<
     requires { Placed pass.now.way voxels cells (length pass.now.from.now) (length to.old) }
     ensures { Swept V.Value.ops pass.now (λ x c. strip_share voxels.entry x * strip_share cells.entry c) to.old to.new }
 {
-    // No closure: the way is named by every contract, and only says which strip is read.
+    // No closure: the way is a case of the pass, which says which strip is read and what the weights' order is.
     match pass.way {
         Way::Forward => carry(pass.factor, pass.from, voxels, to, cells),
         Way::Back => carry(pass.factor, pass.from, cells, to, voxels),

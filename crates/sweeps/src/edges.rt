@@ -34,14 +34,13 @@ impl LandedEdges<'_> {
     // The three searches go edge by edge from a guess, as the run sought lies near it. `partition_point`, which halves, was
     // tried in the C program of the same method: a sweep takes more than twice the time.
 
-    // From `near` down, the first edge that is not above `low`, or edge 0.
+    // From `near` down, the first edge that is not above `low`, or edge 0. A number past the last stands for the last.
     fn stepped_down(self, low: i64, near: usize) -> usize
-        requires { near < length self.at.now }
-        ensures bound { result ≤ near }
+        ensures bound { result < length self.entry.at.now }
         ensures below { 0 < result → slice_index_or self.entry.at.now result (pos 0) ≤ℤ low }
     {
         let edges = self.at;
-        (1..near + 1)
+        (1..near.min(edges.len() - 1) + 1)
             .rev()
             .find(|edge| edges[*edge] <= low)
             .unwrap_or(0)
@@ -60,7 +59,8 @@ impl LandedEdges<'_> {
             .unwrap_or(cells)
     }
 
-    // From `start` up, the first cell whose lower edge is not below `high`, or the number of cells.
+    // From `start` up, the first cell whose lower edge is not below `high`, or the number of cells. It and `stepped_up` are
+    // no one search over a test: each is one chain, and promises another thing.
     pub(crate) fn run_end(self, high: i64, start: usize) -> usize
         requires { start < length self.at.now }
         ensures bound { (start ≤ result) × (result < length self.entry.at.now) }
@@ -75,7 +75,6 @@ impl LandedEdges<'_> {
 
     // From `near` on, whichever way, the first cell whose upper edge lies above `low`, or the number of cells.
     pub(crate) fn run_start(self, low: i64, near: usize) -> usize
-        requires { near < length self.at.now }
         ensures bound { result < length self.entry.at.now }
         ensures passed { (i : ℕ) → i < result → slice_index_or self.entry.at.now (i + 1) (pos 0) ≤ℤ low }
     {

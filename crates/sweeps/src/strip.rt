@@ -1,4 +1,4 @@
-ghost use Rattle.std.specs.Prelude.{◌≡◌, ◌<◌, length};
+ghost use Rattle.std.specs.Prelude.{◌≡◌};
 ghost use Rattle.sweeps.specs.Runs.{Covers};
 
 use crate::edges::LandedEdges;
@@ -26,7 +26,6 @@ impl<'a> Line<'a> {
     // The line over a stretch, with an empty run where the stretch is empty. The search starts at `near`: the run of one
     // stretch is the best guess for the next.
     pub(crate) fn over(self, over: Stretch, near: usize) -> Strip<'a>
-        requires { near < length self.edges.at.now }
         ensures line { result.line ≡ self.entry }
         ensures over { result.over ≡ over }
     {

@@ -3,8 +3,8 @@ use Rattle.sweeps.proofs.Beams.{column_none}
 use Rattle.sweeps.proofs.Levels.{swept_none}
 use Rattle.sweeps.proofs.block.sweep_column.Goals as goal
 
-pub returns-else-voxels-clause-swept : goal.returns-else-voxels-clause-swept
-returns-else-voxels-clause-swept g c =
+pub returns-else-voxels : goal.returns-else-voxels
+returns-else-voxels g c =
     let a = c.args in
     let L = g.L.Landed.landing a.pass.now.view.now in
     let e = c.over-voxels.ensures in

@@ -1,4 +1,4 @@
-use Rattle.std.proofs.Common.{◌≡◌, ap, arith}
+use Rattle.std.proofs.Common.{◌≡◌, ◌-◌, length, ap, arith}
 use Rattle.sweeps.specs.Passes.{slab_weight, block_weight}
 use Rattle.sweeps.proofs.Levels.{summed, summed_none, summed_more, swept_as}
 use Rattle.sweeps.proofs.block.Block.sweep.Goals as goal
@@ -7,13 +7,13 @@ pub loop-number-init : goal.loop-number-init
 loop-number-init g c =
     let b = c.args.self.now in
     let L = g.L.Landed.landing b.pass.now.view.now in
-    summed_none g.met.V.Value.lawful b.pass.now c.args.to.now (slab_weight L b.first b.count)
+    summed_none g.met.V.Value.lawful b.pass.now c.args.to.now (slab_weight L b.first (length b.columns.now - 1))
 
 pub loop-number-preserved : goal.loop-number-preserved
 loop-number-preserved g c =
     let b = c.args.self.now in
     let L = g.L.Landed.landing b.pass.now.view.now in
-    summed_more g.met.V.Value.lawful b.pass.now c.args.to.now (slab_weight L b.first b.count)
+    summed_more g.met.V.Value.lawful b.pass.now c.args.to.now (slab_weight L b.first (length b.columns.now - 1))
     c.loop-number.number c.loop-number.to c.sweep_slab.new.to c.loop-number.auto.to c.loop-number.invariant c.sweep_slab.ensures
 
 pub returns : goal.returns
@@ -21,7 +21,7 @@ unfolding block_weight
 returns g c =
     let b = c.args.self.now in
     let L = g.L.Landed.landing b.pass.now.view.now in
-    let M = slab_weight L b.first b.count in
+    let M = slab_weight L b.first (length b.columns.now - 1) in
     let slabs = c.slabs-number-end.ensures in
     let end : c.loop-number.number ≡ L.slabs = omega arith in
     swept_as g.met.V.Value.lawful b.pass.now c.args.to.now (summed M c.loop-number.number) _ c.loop-number.to (λ x k. ap (λ n. summed M n x k) end) c.loop-number.invariant

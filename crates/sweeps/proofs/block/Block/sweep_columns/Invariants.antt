@@ -1,4 +1,4 @@
-use Rattle.std.proofs.Common.{◌+◌, ◌≤◌}
+use Rattle.std.proofs.Common.{◌+◌}
 use Rattle.sweeps.specs.Passes.{Swept, column_weight}
 use Rattle.sweeps.proofs.Levels.{summed}
 use Rattle.sweeps.proofs.block.Block.sweep_columns.Given as goal
@@ -6,5 +6,4 @@ use Rattle.sweeps.proofs.block.Block.sweep_columns.Given as goal
 abbrev pub invariant-loop-offset : goal.invariant-loop-offset
 invariant-loop-offset g l =
     let L = g.L.Landed.landing l.self.pass.now.view.now in
-    (l.near ≤ L.crosses)
-    × Swept g.V.Value.ops l.self.pass.now (summed (λ d. column_weight L l.slab.number (l.self.first + d)) l.offset) l.initial.to l.to
+    Swept g.V.Value.ops l.self.pass.now (summed (λ d. column_weight L l.slab.number (l.self.first + d)) l.offset) l.initial.to l.to

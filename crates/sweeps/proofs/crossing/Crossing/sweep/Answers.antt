@@ -7,16 +7,14 @@ pub loop-height-init : goal.loop-height-init
 loop-height-init g c =
     let x = c.args.self.now in
     let L = g.L.Landed.landing x.pass.now.view.now in
-    (omega arith, summed_none g.met.V.Value.lawful x.pass.now c.args.to.now (beam_weight L x.slab.number x.column.number))
+    summed_none g.met.V.Value.lawful x.pass.now c.args.to.now (beam_weight L x.slab.number x.column.number)
 
 pub loop-height-preserved : goal.loop-height-preserved
 loop-height-preserved g c =
     let x = c.args.self.now in
-    let L = g.L.Landed.landing x.pass.now.view.now in (
-      c.sweep_height-near.ensures.near,
-      summed_more g.met.V.Value.lawful x.pass.now c.args.to.now (beam_weight L x.slab.number x.column.number)
-          c.loop-height.height c.loop-height.to c.sweep_height-near.new.to c.loop-height.auto.to c.loop-height.invariant.1 c.sweep_height-near.ensures.swept,
-    )
+    let L = g.L.Landed.landing x.pass.now.view.now in
+    summed_more g.met.V.Value.lawful x.pass.now c.args.to.now (beam_weight L x.slab.number x.column.number)
+    c.loop-height.height c.loop-height.to c.sweep_height-near.new.to c.loop-height.auto.to c.loop-height.invariant c.sweep_height-near.ensures
 
 pub returns : goal.returns
 unfolding column_weight
@@ -28,4 +26,4 @@ returns g c =
     let cells = c.cells-height-end.ensures in
     let end : c.loop-height.height ≡ L.heights = omega arith in
     swept_as g.met.V.Value.lawful x.pass.now c.args.to.now (summed M c.loop-height.height) _ c.loop-height.to
-    (λ a b. ap (λ n. summed M n a b) end) c.loop-height.invariant.1
+    (λ a b. ap (λ n. summed M n a b) end) c.loop-height.invariant

@@ -1,4 +1,3 @@
-use Rattle.std.proofs.Common.{◌≤◌}
 use Rattle.sweeps.specs.Passes.{Swept, beam_weight}
 use Rattle.sweeps.proofs.Levels.{summed}
 use Rattle.sweeps.proofs.crossing.Crossing.sweep.Given as goal
@@ -6,5 +5,4 @@ use Rattle.sweeps.proofs.crossing.Crossing.sweep.Given as goal
 abbrev pub invariant-loop-height : goal.invariant-loop-height
 invariant-loop-height g l =
     let L = g.L.Landed.landing l.self.pass.now.view.now in
-    (l.near ≤ L.rows)
-    × Swept g.V.Value.ops l.self.pass.now (summed (beam_weight L l.self.slab.number l.self.column.number) l.height) l.initial.to l.to
+    Swept g.V.Value.ops l.self.pass.now (summed (beam_weight L l.self.slab.number l.self.column.number) l.height) l.initial.to l.to

@@ -1,7 +1,7 @@
 use Rattle.std.proofs.Common.{◌*◌, length, ap, ◌∙◌, arith}
 use Rattle.sweeps.specs.Strips.{strip_share}
-use Rattle.sweeps.specs.Passes.{beam_weight, VoxelLine, CellLine}
-use Rattle.sweeps.proofs.Beams.{voxels_inside, cells_inside, cells_none, beam_is, placed, line_most}
+use Rattle.sweeps.specs.Passes.{beam_weight, CellLine}
+use Rattle.sweeps.proofs.Beams.{VoxelLine, voxels_inside, cells_inside, cells_none, beam_is, placed, line_most}
 use Rattle.sweeps.proofs.Levels.{swept_as, swept_none}
 use Rattle.sweeps.proofs.crossing.Crossing.sweep_height.Goals as goal
 
@@ -33,8 +33,8 @@ exchange-requires g c =
     (voxels_inside L x.slab x.column x.slab_of x.column_of c.args.height c.requires.height c.moved-voxels.result v)
     (cells_inside L x.slab x.column x.slab_of x.column_of c.args.height c.requires.height c.over-cells.result k)
 
-pub returns-then-cells-clause-swept : goal.returns-then-cells-clause-swept
-returns-then-cells-clause-swept g c =
+pub returns-then-cells : goal.returns-then-cells
+returns-then-cells g c =
     let x = c.args.self.now in
     let L = g.L.Landed.landing x.pass.now.view.now in
     let e = c.moved-voxels.ensures in
@@ -46,8 +46,8 @@ returns-then-cells-clause-swept g c =
     swept_as g.met.V.Value.lawful x.pass.now c.args.to.now (λ a b. strip_share c.moved-voxels.result a * strip_share c.over-cells.result b) _ c.exchange.new.to
     (beam_is L x.slab x.column x.slab_of x.column_of c.args.height c.requires.height c.moved-voxels.result c.over-cells.result v k) c.exchange.ensures
 
-pub returns-else-cells-clause-swept : goal.returns-else-cells-clause-swept
-returns-else-cells-clause-swept g c =
+pub returns-else-cells : goal.returns-else-cells
+returns-else-cells g c =
     let x = c.args.self.now in
     let L = g.L.Landed.landing x.pass.now.view.now in
     let f = c.over-cells.ensures in
