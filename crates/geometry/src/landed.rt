@@ -48,8 +48,7 @@ impl Pose {
         }
     }
 
-    // The divisor of U and W: 2R times the signed distance along the slab axis between the source and the middle of the
-    // slab.
+    // The divisor of U and W: 2R times the signed distance along the slab axis between the source and the slab's middle.
     fn depth(self, slab: Middle) -> i64
         ensures value { result ≡ depth self.distances.source self.direction.a slab.twice }
         ensures within { unsigned_abs result ≤ 2 ^ 40 }
@@ -100,9 +99,8 @@ impl Pose {
     pub fn row_edge(self, column: Cell, g: Edge) -> i64
         ensures { result ≡ row_edge self.distances.source self.distances.panel self.direction.a self.direction.b (column.low.at +ℤ column.high.at) g.at }
     {
-        let slant = self
-            .direction
-            .slant(2 * self.distances.panel, column.middle().twice);
+        let middle = column.middle();
+        let slant = self.direction.slant(2 * self.distances.panel, middle.twice);
         floor_div(self.height_dividend(g), slant)
     }
 }
