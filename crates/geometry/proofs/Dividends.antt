@@ -4,11 +4,15 @@ use Rattle.std.proofs.Common.{◌+◌, ◌^◌, ℤ, pos, ◌+ℤ◌, ◌-ℤ◌
 use Rattle.geometry.specs.declared.direction.Direction.{Direction}
 use Rattle.geometry.specs.declared.distances.Distances.{Distances}
 use Rattle.geometry.specs.declared.edge.Edge.{Edge}
+use Rattle.geometry.specs.declared.landed.Middle.{Middle}
 use Rattle.geometry.proofs.Words.{again, Reads, Makes, lit, arg, read, times, plus, minus}
 
 -- the operands that the arguments hold
 pub place : (e : Edge) → Reads (again e.at) e.at 4194304
 place e = arg e.at e.within (lit< tt)
+
+pub middle : (m : Middle) → Reads (again m.twice) m.twice 8388608
+middle m = arg m.twice m.within (lit< tt)
 
 pub source : (d : Distances) → Reads (again d.source) d.source (2 ^ 24)
 source d = arg d.source d.admitted.source_most (lit< tt)

@@ -4,7 +4,7 @@ use lib.Signed.{≤ℤ_refl}
 use borrow.Author.Differences.{ints, up, down}
 use Rattle.std.specs.Int.{int_min, int_max}
 use Rattle.std.proofs.lemmas.Int.{clamps}
-use Rattle.geometry.specs.Overlap.{or_zero, overlap, overlaps, Conserved}
+use Rattle.geometry.specs.Overlap.{or_zero, overlap, overlaps, Conserved, EitherWay}
 
 pub or_zero_is : (z : ℤ) → or_zero z ≡ up z - down z
 or_zero_is (pos n) = omega arith
@@ -81,7 +81,7 @@ pub overlap_sym : (a0 a1 b0 b1 : ℤ) → overlap a0 a1 b0 b1 ≡ overlap b0 b1 
 overlap_sym a0 a1 b0 b1 = omega (arith, ints, clamps, or_zero_is)
 
 -- stretches with their lower ends first overlap as the same stretches with their ends in either order
-pub overlap_between : (a0 a1 b0 b1 : ℤ) → overlap (int_min a0 a1) (int_max a0 a1) (int_min b0 b1) (int_max b0 b1) ≡ overlap a0 a1 b0 b1
+pub overlap_between : EitherWay
 overlap_between a0 a1 b0 b1 = overlap_sorted (int_min a0 a1) (int_max a0 a1) b0 b1 ∙ overlap_sym (int_min a0 a1) (int_max a0 a1) b0 b1 ∙ overlap_sorted b0 b1 a0 a1 ∙ overlap_sym b0 b1 a0 a1
 
 pub overlap_most : (u0 u1 s0 s1 : ℤ) → overlap u0 u1 s0 s1 ≤ nat_abs (u1 -ℤ u0)

@@ -23,3 +23,7 @@ OneWay S n = ((k : ℕ) → k < n → S k ≤ℤ S (suc k)) ⊎ ((k : ℕ) → k
 -- the overlaps with stretches that follow one another one way add up to the overlap with the whole
 abbrev pub Conserved : Type 0
 Conserved = (u0 u1 : ℤ) (S : ℕ → ℤ) (n : ℕ) → OneWay S n → overlaps u0 u1 S n ≡ overlap u0 u1 (S 0) (S n)
+
+-- which end of a stretch comes first does not matter to the overlap
+abbrev pub EitherWay : Type 0
+EitherWay = (a0 a1 b0 b1 : ℤ) → overlap (int_min a0 a1) (int_max a0 a1) (int_min b0 b1) (int_max b0 b1) ≡ overlap a0 a1 b0 b1

@@ -17,35 +17,51 @@ pub struct Pose {
     pub direction: Direction,
 }
 
-impl Pose {
-    // Q: the sum of the slab's edges, negated for cells of x.
-    fn slab_sum(self, slab: Cell) -> i64
-        ensures value { result ≡ slab_sum self.direction.slabs slab.low.at slab.high.at }
-        ensures within { unsigned_abs result ≤ 8388608 }
+// Twice where the middle of a cell lies: the sum of the cell's edges.
+#[derive(Clone, Copy, PartialEq, Eq, Debug)]
+struct Middle {
+    twice: i64,
+    ghost within: { unsigned_abs twice ≤ 8388608 },
+}
+
+impl Cell {
+    fn middle(self) -> Middle
+        ensures { result.twice ≡ self.low.at +ℤ self.high.at }
     {
+        Middle {
+            twice: self.low.at + self.high.at,
+        }
+    }
+}
+
+impl Pose {
+    // Q: twice the middle of the slab, negated for cells of x.
+    fn slab_sum(self, slab: Cell) -> Middle
+        ensures { result.twice ≡ slab_sum self.direction.slabs slab.low.at slab.high.at }
+    {
+        let middle = slab.middle();
         match self.direction.slabs {
-            SlabAxis::X => -(slab.low.at + slab.high.at),
-            SlabAxis::Y => slab.low.at + slab.high.at,
+            SlabAxis::X => Middle {
+                twice: -middle.twice,
+            },
+            SlabAxis::Y => middle,
         }
     }
 
-    // The divisor of U and W: 2R times the signed distance along the slab axis between the source and the middle of the
-    // slab, whose edges' sum is given.
-    fn depth(self, sum: i64) -> i64
-        requires { unsigned_abs sum ≤ 8388608 }
-        ensures value { result ≡ depth self.distances.source self.direction.a sum }
+    // The divisor of U and W: 2R times the signed distance along the slab axis between the source and the slab's middle.
+    fn depth(self, slab: Middle) -> i64
+        ensures value { result ≡ depth self.distances.source self.direction.a slab.twice }
         ensures within { unsigned_abs result ≤ 2 ^ 40 }
     {
-        2 * self.distances.source * self.direction.a - R * sum
+        2 * self.distances.source * self.direction.a - R * slab.twice
     }
 
     // The dividend of U.
-    fn cross_dividend(self, sum: i64, e: Edge) -> i64
-        requires { unsigned_abs sum ≤ 8388608 }
-        ensures value { result ≡ self.distances.source *ℤ (pos 2 *ℤ e.at *ℤ self.direction.a +ℤ sum *ℤ self.direction.b) }
+    fn cross_dividend(self, slab: Middle, e: Edge) -> i64
+        ensures value { result ≡ self.distances.source *ℤ (pos 2 *ℤ e.at *ℤ self.direction.a +ℤ slab.twice *ℤ self.direction.b) }
         ensures within { unsigned_abs result ≤ 2 ^ 62 }
     {
-        self.distances.source * (2 * e.at * self.direction.a + sum * self.direction.b)
+        self.distances.source * (2 * e.at * self.direction.a + slab.twice * self.direction.b)
     }
 
     // The dividend of W and T.
@@ -60,8 +76,8 @@ impl Pose {
     pub fn cross_edge(self, slab: Cell, e: Edge) -> i64
         ensures { result ≡ cross_edge self.distances.source self.direction.a self.direction.b (slab_sum self.direction.slabs slab.low.at slab.high.at) e.at }
     {
-        let sum = self.slab_sum(slab);
-        floor_div(self.cross_dividend(sum, e), self.depth(sum))
+        let middle = self.slab_sum(slab);
+        floor_div(self.cross_dividend(middle, e), self.depth(middle))
     }
 
     // Where the edge z of a voxel, along the rotation axis, lands from a slab.
@@ -83,8 +99,8 @@ impl Pose {
     pub fn row_edge(self, column: Cell, g: Edge) -> i64
         ensures { result ≡ row_edge self.distances.source self.distances.panel self.direction.a self.direction.b (column.low.at +ℤ column.high.at) g.at }
     {
-        let sum = column.low.at + column.high.at;
-        let slant = self.direction.slant(2 * self.distances.panel, sum);
+        let middle = column.middle();
+        let slant = self.direction.slant(2 * self.distances.panel, middle.twice);
         floor_div(self.height_dividend(g), slant)
     }
 }

@@ -1,5 +1,6 @@
 // Which numbers have a step.
-ghost use Rattle.geometry.specs.Steps.{Numbered};
+ghost use Rattle.std.specs.Prelude.{Some};
+ghost use Rattle.geometry.specs.Steps.{Numbered, no_step_text};
 
 use crate::step::{LAST_STEP, Step};
 use std::error::Error;
@@ -29,6 +30,8 @@ impl TryFrom<i32> for Step {
 }
 
 impl fmt::Display for NoStep {
+    ghost output = { λ e. Some (no_step_text e) };
+
     fn fmt<W: fmt::Write>(&self, f: &mut fmt::Formatter<W>) -> fmt::Result {
         write!(f, "no step of the turn has the number {}", self.number)
     }

@@ -1,7 +1,7 @@
 // A stretch of an axis.
 ghost use Rattle.std.specs.Prelude.{◌≡◌, ◌≤ℤ◌};
 ghost use Rattle.std.specs.Int.{int_min, int_max};
-ghost use Rattle.geometry.specs.Overlap.{overlap, Conserved};
+ghost use Rattle.geometry.specs.Overlap.{overlap, Conserved, EitherWay};
 
 use crate::overlap::gap;
 
@@ -26,10 +26,11 @@ impl Stretch {
     }
 
     // How far two stretches overlap. The overlaps of a stretch with stretches that follow one another one way add up to
-    // its overlap with the whole: nothing is lost or counted twice.
+    // its overlap with the whole: nothing is lost or counted twice. Which end of a stretch comes first does not matter.
     pub fn overlap(self, other: Stretch) -> u64
         ensures value { result ≡ overlap self.low self.high other.low other.high }
         ensures conserved { Conserved }
+        ensures either_way { EitherWay }
     {
         gap(self.low.max(other.low), self.high.min(other.high))
     }
