@@ -38,6 +38,7 @@ fn planned(heap: Global) -> Result<Plan, Failure> {
 fn shadow(heap: Global, plan: &Plan) -> Result<Vec<Count>, Failure> {
     let volume = vec![in heap; Count::from(1); plan.voxels()]?;
     let mut working = vec![in heap; Count::ZERO; plan.views() * plan.cells()]?;
+    // By number, since the number of the view is what each call takes.
     for view in 0..plan.views() {
         forward(plan, view, Count::from(1), &volume, &mut working)?;
     }
@@ -49,6 +50,7 @@ fn hits(heap: Global, plan: &Plan) -> Result<usize, Failure> {
     let yes = Reach { yes: true };
     let working = vec![in heap; yes; plan.views() * plan.cells()]?;
     let mut volume = vec![in heap; Reach::ZERO; plan.voxels()]?;
+    // By number, since the number of the view is what each call takes.
     for view in 0..plan.views() {
         back(plan, view, yes, &mut volume, &working)?;
     }

@@ -9,8 +9,8 @@ use crate::refusal::Refusal;
 use geometry::distances::{Distances, FARTHEST_PANEL, FARTHEST_SOURCE};
 use geometry::step::Step;
 
-// No `TryFrom`: it is made of two numbers, each with a refusal of its own.
 // Refuses D, from the source to the rotation axis, out of its range (6), and then F, from the source to the panel (6).
+// No `TryFrom`: this crate may not write it, since a pair of numbers and `Distances` are other crates', and its refusals are this crate's.
 pub(crate) fn distances_of(source: i32, panel: i32) -> Result<Distances, Refusal>
     ensures { Verdict (distances_check source panel) (λ d. (d.source ≡ source) × (d.panel ≡ panel)) result }
 {

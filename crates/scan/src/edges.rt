@@ -38,12 +38,12 @@ pub(crate) fn first_outside<E: Edges>(edges: &E, limit: u64) -> Option<usize>
 }
 
 // The first cell whose upper edge is not above its lower one.
-fn first_not_rising<E: Edges>(edges: &E, cells: usize) -> Option<usize>
-    requires { cells ≡ E.count edges.now - 1 }
-    ensures value { result ≡ first_not_rising cells (E.at edges.now) }
-    ensures within { IfSome result (λ i. i < cells) }
+fn first_not_rising<E: Edges>(edges: &E) -> Option<usize>
+    ensures value { result ≡ first_not_rising (E.count edges.now - 1) (E.at edges.now) }
+    ensures within { IfSome result (λ i. i < E.count edges.now - 1) }
+    ensures size { IfSome result (λ i. i + 1 < 2 ^ 64) }
 {
-    (0..cells).find(
+    (0..edges.len().saturating_sub(1)).find(
         |&i|
             requires cell { i + 1 < E.count edges.now }
             requires size { i + 1 < 2 ^ 64 }
@@ -61,7 +61,7 @@ pub(crate) fn check_edges<E: Edges>(edges: &E) -> Result<(), Refusal>
             at: edges.get(edge),
         });
     }
-    if let Some(i) = first_not_rising(edges, edges.len().saturating_sub(1)) {
+    if let Some(i) = first_not_rising(edges) {
         return Err(Refusal::NotRising {
             edge: i + 1,
             before: edges.get(i),

@@ -64,6 +64,7 @@ impl Axis for EvenAxis {
 
     fn edge(&self, i: usize) -> i32 {
         // The cast loses nothing: each edge lies within 4,194,304 of 0.
+        // It is `as`, since no `From` narrows, and `try_from` would test what the type already keeps.
         self.spaced.get(i.min(self.spaced.cells)) as i32
     }
 }

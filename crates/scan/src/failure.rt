@@ -22,6 +22,7 @@ impl From<Refusal> for Failure {
     }
 }
 
+// Twice, here and below: the library has two types for want of memory, and `?` converts each by an impl of its own.
 impl From<AllocError> for Failure {
     ghost from_gives = { λ _ r. r ≡ Memory };
 

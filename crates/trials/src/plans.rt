@@ -122,6 +122,7 @@ fn views(rt: HostRuntime) -> Result<(), Fail> {
     let mut draft = draft(rt.alloc(), 500, 2000, 1000)?;
     assert_eq!(rt; refused(draft.add_view(64)), Some((9, 0)));
     assert_eq!(rt; refused(draft.add_view(-1)), Some((9, 0)));
+    // A `for`, since a chain could not stop at a refusal more plainly.
     for _ in 0..1023 {
         draft.add_view(0)?;
     }

@@ -278,9 +278,7 @@ fn many_columns(rt: HostRuntime) -> Result<(), Fail> {
 fn many_columns_back(rt: HostRuntime) -> Result<(), Fail> {
     let heap = rt.alloc();
     let plan = uneven_before(heap, &EvenAxis::new(-180, 20, 18)?, &[40])?;
-    let cells: Vec<Count> = (1..37)
-        .map(|number: i64| Count::from(number))
-        .collect(heap)?;
+    let cells: Vec<Count> = (1..37).map(Count::from).collect(heap)?;
     let mut volume = vec![in heap; Count::ZERO; 12]?;
     back(&plan, 0, Count::from(2), &mut volume, &cells)?;
     let expected = [
