@@ -3,19 +3,20 @@ use geometry::no_step::NoStep;
 use scan::failure::Failure;
 use scan::refusal::{Refusal, Store};
 use std::alloc::{AllocError, Global};
-use std::process::Abort;
 use std::test::Fail;
 use values::count::Count;
 
 // The least and the greatest number that a Count is shown as.
 const ENDS: [i64; 2] = [i64::MIN, i64::MAX];
 
-// Each refusal is shown as the text beside it.
-fn assert_texts(rt: &impl Abort, heap: Global, cases: &[(Refusal, &str)]) -> Result<(), Fail> {
+// Whether each refusal is shown as the text beside it.
+fn shown_as(heap: Global, cases: &[(Refusal, &str)]) -> Result<bool, AllocError> {
     for (refusal, text) in cases {
-        assert_eq!(rt; refusal.to_string(heap)?.as_str(), *text);
+        if refusal.to_string(heap)?.as_str() != *text {
+            return Ok(false);
+        }
     }
-    Ok(())
+    Ok(true)
 }
 
 #[test]
@@ -59,98 +60,92 @@ fn texts_of_counts(rt: HostRuntime) -> Result<(), Fail> {
 
 #[test]
 fn texts_of_refused_axes(rt: HostRuntime) -> Result<(), Fail> {
-    assert_texts(
-        &rt,
-        rt.alloc(),
-        &[
-            (
-                Refusal::Count {
-                    found: 514,
-                    least: 2,
-                    most: 513,
-                },
-                "refused by 2 at place 0",
-            ),
-            (
-                Refusal::NotRising {
-                    edge: 12,
-                    before: 3,
-                    at: 3,
-                },
-                "refused by 4 at place 12",
-            ),
-            (
-                Refusal::OutOfRange {
-                    edge: 512,
-                    at: 4_194_305,
-                },
-                "refused by 5 at place 512",
-            ),
-        ],
-    )
+    let cases = [
+        (
+            Refusal::Count {
+                found: 514,
+                least: 2,
+                most: 513,
+            },
+            "refused by 2 at place 0",
+        ),
+        (
+            Refusal::NotRising {
+                edge: 12,
+                before: 3,
+                at: 3,
+            },
+            "refused by 4 at place 12",
+        ),
+        (
+            Refusal::OutOfRange {
+                edge: 512,
+                at: 4_194_305,
+            },
+            "refused by 5 at place 512",
+        ),
+    ];
+    assert!(rt; shown_as(rt.alloc(), &cases)?);
+    Ok(())
 }
 
 #[test]
 fn texts_of_refused_drafts(rt: HostRuntime) -> Result<(), Fail> {
-    assert_texts(
-        &rt,
-        rt.alloc(),
-        &[
-            (Refusal::SourceDistance { at: 0 }, "refused by 6 at place 0"),
-            (
-                Refusal::PanelDistance {
-                    at: 999,
-                    source: 1000,
-                },
-                "refused by 6 at place 1",
-            ),
-            (
-                Refusal::SourceTooNear {
-                    source: 200,
-                    widest: 100,
-                },
-                "refused by 7 at place 0",
-            ),
-            (
-                Refusal::ColumnBeyond {
-                    edge: 2,
-                    at: 2000,
-                    panel: 2000,
-                },
-                "refused by 8 at place 2",
-            ),
-        ],
-    )
+    let cases = [
+        (Refusal::SourceDistance { at: 0 }, "refused by 6 at place 0"),
+        (
+            Refusal::PanelDistance {
+                at: 999,
+                source: 1000,
+            },
+            "refused by 6 at place 1",
+        ),
+        (
+            Refusal::SourceTooNear {
+                source: 200,
+                widest: 100,
+            },
+            "refused by 7 at place 0",
+        ),
+        (
+            Refusal::ColumnBeyond {
+                edge: 2,
+                at: 2000,
+                panel: 2000,
+            },
+            "refused by 8 at place 2",
+        ),
+    ];
+    assert!(rt; shown_as(rt.alloc(), &cases)?);
+    Ok(())
 }
 
 #[test]
 fn texts_of_refused_calls(rt: HostRuntime) -> Result<(), Fail> {
-    assert_texts(
-        &rt,
-        rt.alloc(),
-        &[
-            (
-                Refusal::StepOutOfRange { step: 64 },
-                "refused by 9 at place 0",
-            ),
-            (
-                Refusal::DraftFull { views: 1024 },
-                "refused by 21 at place 0",
-            ),
-            (
-                Refusal::NoView { view: 3, views: 3 },
-                "refused by 22 at place 0",
-            ),
-            (
-                Refusal::StoreLength {
-                    store: Store::Volume,
-                    found: 3,
-                    wanted: 4,
-                },
-                "refused by 23 at place 0",
-            ),
-        ],
-    )
+    let cases = [
+        (
+            Refusal::StepOutOfRange { step: 64 },
+            "refused by 9 at place 0",
+        ),
+        (
+            Refusal::DraftFull { views: 1024 },
+            "refused by 21 at place 0",
+        ),
+        (
+            Refusal::NoView { view: 3, views: 3 },
+            "refused by 22 at place 0",
+        ),
+        (
+            Refusal::StoreLength {
+                store: Store::Volume,
+                found: 3,
+                wanted: 4,
+            },
+            "refused by 23 at place 0",
+        ),
+    ];
+    assert!(rt; shown_as(rt.alloc(), &cases)?);
+    Ok(())
 }
 
 #[test]
