@@ -32,7 +32,7 @@ impl LandedEdges<'_> {
     }
 
     // The three searches go edge by edge from a guess, as the run sought lies near it. `partition_point`, which halves, was
-    // tried in the C program of the same method: a sweep takes more than twice the time.
+    // tried: a sweep takes about twice the time.
 
     // From `near` down, the first edge that is not above `low`, or edge 0. A number past the last stands for the last.
     fn stepped_down(self, low: i64, near: usize) -> usize
