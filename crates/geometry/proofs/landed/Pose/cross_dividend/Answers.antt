@@ -1,13 +1,7 @@
 use Rattle.std.proofs.Common.{lit≤}
 use Rattle.geometry.proofs.Words.{returned}
-use Rattle.geometry.proofs.Dividends.{place, middle, source, main, side, along_made, across_made, sum_made, cross_made}
+use Rattle.geometry.proofs.Dividends.{place, middle, source, main, side, sum_made, cross_made}
 use Rattle.geometry.proofs.landed.Pose.cross_dividend.Goals as goal
-
-pub overflow_mul-result-2 : goal.overflow_mul-result-2
-overflow_mul-result-2 c = (along_made (main c.args.self.direction) (side c.args.self.direction) (place c.args.e)).fits
-
-pub overflow_mul-result-3 : goal.overflow_mul-result-3
-overflow_mul-result-3 c = (across_made (main c.args.self.direction) (side c.args.self.direction) (middle c.args.slab)).fits
 
 pub overflow_add-result : goal.overflow_add-result
 overflow_add-result c = (sum_made (main c.args.self.direction) (side c.args.self.direction) (middle c.args.slab) (place c.args.e)).fits

@@ -1,11 +1,6 @@
 use Rattle.scan.proofs.Reached.{kept_near, kept_reaches}
 use Rattle.scan.proofs.draft.Draft.new.Goals as goal
 
-pub invariant_of-result-clause-near : goal.invariant_of-result-clause-near
-invariant_of-result-clause-near g c =
-    let d = c.in_ok-distances.distances in
-    kept_near d.source d.panel _ _ (g.C.Axis.edges c.args.column.now) c.in_ok-check_reach.ensures.0 c.in_ok-x.ensures c.in_ok-y.ensures
-
 pub invariant_of-result-clause-reaches : goal.invariant_of-result-clause-reaches
 invariant_of-result-clause-reaches g c =
     let d = c.in_ok-distances.distances in
