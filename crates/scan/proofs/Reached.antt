@@ -2,15 +2,12 @@
 use Rattle.std.specs.Prelude.{◌≡◌, ℕ, Bool, List, length, ℤ, None, nat_le, unsigned_abs}
 use Rattle.std.proofs.Common.{sym, arith}
 use Rattle.scan.specs.Axes.{edge_of}
-use Rattle.scan.specs.Plans.{first_beyond, reach_check, Near, Reaches}
+use Rattle.scan.specs.Plans.{first_beyond, reach_check, Reaches}
 use Rattle.scan.proofs.Firsts.{first_none}
 use Rattle.scan.specs.Numbered.{edge_at}
 
 -- of the lists that hold the edges that were checked
 module _ (source panel : ℤ) (x y column : List ℤ) (passed : reach_check source panel x y column ≡ None) where
-  pub kept_near : {vx vy : List ℤ} → vx ≡ x → vy ≡ y → Near source vx vy
-  kept_near ex ey = rw (ex, ey) (grind arith)
-
   reaches : Reaches panel column
   reaches i l =
       let test : ℕ → Bool = λ k. nat_le (unsigned_abs panel) (unsigned_abs (edge_of column k)) in

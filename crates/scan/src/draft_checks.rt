@@ -10,7 +10,8 @@ use geometry::distances::{Distances, FARTHEST_PANEL, FARTHEST_SOURCE};
 use geometry::step::Step;
 
 // Refuses D, from the source to the rotation axis, out of its range (6), and then F, from the source to the panel (6).
-// No `TryFrom`: this crate may not write it, since a pair of numbers and `Distances` are other crates', and its refusals are this crate's.
+// No `TryFrom`: this crate may not write it, and in that of `Distances` it would need two refusals of its own, which are
+// these two again.
 pub(crate) fn distances_of(source: i32, panel: i32) -> Result<Distances, Refusal>
     ensures { Verdict (distances_check source panel) (λ d. (d.source ≡ source) × (d.panel ≡ panel)) result }
 {
@@ -35,6 +36,7 @@ fn farthest<A: Axis>(axis: &A) -> u32
         .unwrap_or(0)
 }
 
+// Not the search of `first_outside`, which is over edges that are no axis yet, and leaves the limit out.
 // The first edge of an axis that lies as far from 0 as the limit, or farther.
 fn first_beyond<A: Axis>(axis: &A, limit: u64) -> Option<usize>
     ensures { result ≡ first_beyond limit (A.edges axis.now) }

@@ -4,7 +4,8 @@ ghost use Rattle.scan.specs.Landing.{Landing, Sound};
 use geometry::direction::SlabAxis;
 
 // One view of a scan, by where its edges land on the common plane. A number past the last is answered as the last.
-// Five numbers of cells are five methods: an impl answers each its own way, and callers read better by name than by a key.
+// Five numbers of cells are five methods: callers read better by name than by a key, and slabs and crosses are no axes of
+// a scan.
 pub trait Landed {
     ghost landing: { Self → Landing };
 

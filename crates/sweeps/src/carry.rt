@@ -7,6 +7,7 @@ ghost use Rattle.sweeps.specs.Strips.{strip_cells, strip_share, Inside, Gained};
 use crate::strip::Strip;
 use values::value::Value;
 
+// That a strip lies in its store stays a clause: a type of both would be needed once for `&` and once for `&mut`.
 impl Strip<'_> {
     // How far a cell overlaps the stretch.
     fn share(self, cell: usize) -> u64

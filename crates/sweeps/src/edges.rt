@@ -32,7 +32,7 @@ impl LandedEdges<'_> {
     }
 
     // The three searches go edge by edge from a guess, as the run sought lies near it. `partition_point`, which halves, was
-    // tried: a sweep takes about twice the time.
+    // tried: a sweep takes about twice the time. That a result lies among the edges is what each promises of its own.
 
     // From `near` down, the first edge that is not above `low`, or edge 0. A number past the last stands for the last.
     fn stepped_down(self, low: i64, near: usize) -> usize

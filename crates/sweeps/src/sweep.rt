@@ -34,7 +34,7 @@ fn sweep_block<V: Value, L: Landed>(pass: &Pass<'_, V, L>, first: usize, count: 
 {
     let view = pass.view;
     let width = view.rows() + 1;
-    // Flat arrays on the stack, row edges `width` to a column: a sweep allocates nothing.
+    // Arrays on the stack, since a sweep allocates nothing; row edges flat, so that one call fills those of all columns.
     let mut columns = [0i64; BLOCK + 1];
     let mut rows = [0i64; MOST_ROW_EDGES];
     let block = Block {

@@ -3,16 +3,17 @@ use geometry::no_step::NoStep;
 use scan::failure::Failure;
 use scan::refusal::{Refusal, Store};
 use std::alloc::{AllocError, Global};
+use std::fmt;
 use std::test::Fail;
 use values::count::Count;
 
 // The least and the greatest number that a Count is shown as.
 const ENDS: [i64; 2] = [i64::MIN, i64::MAX];
 
-// Whether each refusal is shown as the text beside it.
-fn shown_as(heap: Global, cases: &[(Refusal, &str)]) -> Result<bool, AllocError> {
-    for (refusal, text) in cases {
-        if refusal.to_string(heap)?.as_str() != *text {
+// Whether each thing is shown as the text beside it.
+fn shown_as<T: fmt::Display>(heap: Global, cases: &[(T, &str)]) -> Result<bool, AllocError> {
+    for (shown, text) in cases {
+        if shown.to_string(heap)?.as_str() != *text {
             return Ok(false);
         }
     }
@@ -44,17 +45,15 @@ fn counts_to_numbers_and_back(rt: HostRuntime) {
 
 #[test]
 fn texts_of_counts(rt: HostRuntime) -> Result<(), Fail> {
-    let heap = rt.alloc();
-    for (number, text) in [
-        (0, "0"),
-        (19_120, "19120"),
-        (-1, "-1"),
-        (-28_840, "-28840"),
-        (ENDS[0], "-9223372036854775808"),
-        (ENDS[1], "9223372036854775807"),
-    ] {
-        assert_eq!(rt; Count::from(number).to_string(heap)?.as_str(), text);
-    }
+    let cases = [
+        (Count::from(0), "0"),
+        (Count::from(19_120), "19120"),
+        (Count::from(-1), "-1"),
+        (Count::from(-28_840), "-28840"),
+        (Count::from(ENDS[0]), "-9223372036854775808"),
+        (Count::from(ENDS[1]), "9223372036854775807"),
+    ];
+    assert!(rt; shown_as(rt.alloc(), &cases)?);
     Ok(())
 }
 
@@ -150,28 +149,30 @@ fn texts_of_refused_calls(rt: HostRuntime) -> Result<(), Fail> {
 
 #[test]
 fn texts_of_failures(rt: HostRuntime) -> Result<(), Fail> {
-    let heap = rt.alloc();
     let refused = Failure::from(Refusal::PanelDistance {
         at: 999,
         source: 1000,
     });
-    assert_eq!(rt;
-        refused.to_string(heap)?.as_str(),
-        "refused by 6 at place 1"
-    );
-    let memory = Failure::from(AllocError);
-    assert_eq!(rt; memory.to_string(heap)?.as_str(), "there is no memory");
+    let cases = [
+        (refused, "refused by 6 at place 1"),
+        (Failure::from(AllocError), "there is no memory"),
+    ];
+    assert!(rt; shown_as(rt.alloc(), &cases)?);
     Ok(())
 }
 
 #[test]
 fn texts_of_no_steps(rt: HostRuntime) -> Result<(), Fail> {
-    let heap = rt.alloc();
-    for (number, text) in [
-        (64, "no step of the turn has the number 64"),
-        (-1, "no step of the turn has the number -1"),
-    ] {
-        assert_eq!(rt; NoStep { number }.to_string(heap)?.as_str(), text);
-    }
+    let cases = [
+        (
+            NoStep { number: 64 },
+            "no step of the turn has the number 64",
+        ),
+        (
+            NoStep { number: -1 },
+            "no step of the turn has the number -1",
+        ),
+    ];
+    assert!(rt; shown_as(rt.alloc(), &cases)?);
     Ok(())
 }

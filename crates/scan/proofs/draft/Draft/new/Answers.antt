@@ -1,4 +1,4 @@
-use Rattle.scan.proofs.Reached.{kept_near, kept_reaches}
+use Rattle.scan.proofs.Reached.{kept_reaches}
 use Rattle.scan.proofs.draft.Draft.new.Goals as goal
 
 pub invariant_of-result-clause-reaches : goal.invariant_of-result-clause-reaches
