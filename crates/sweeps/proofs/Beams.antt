@@ -10,7 +10,7 @@ use Rattle.scan.specs.Landing.{Landing, Sound, by_slabs, voxels, cells, cross_ov
 use Rattle.sweeps.specs.Runs.{share, Rising}
 use Rattle.sweeps.specs.Strips.{laid, strip_cells, strip_share, Inside}
 use Rattle.sweeps.specs.Tables.{Tabled}
-use Rattle.sweeps.specs.Passes.{weights, Lengths, Placed, slab_start, slab_stride, rise, beam_weight, column_weight, SlabOf, ColumnOf, Meets, CellLine}
+use Rattle.sweeps.specs.Passes.{weights, Lengths, Placed, slab_start, slab_stride, rise, beam_weight, column_weight, SlabOf, ColumnOf, Meets, VoxelLine, CellLine}
 use Rattle.sweeps.specs.declared.pass.Way.{Way}
 use Rattle.sweeps.specs.declared.pass.Way.TheVariants.{Forward, Back}
 use Rattle.sweeps.specs.declared.pass.Slab.{Slab}
@@ -74,13 +74,6 @@ tabled_rising es n f t r i l =
 -- an empty run: no cell overlaps
 pub share_empty : (s : Strip) → s.last ≤ s.first → (i : ℕ) → i < strip_cells s → share s.line.edges.at.now s.over.low s.over.high i ≡ 0
 share_empty s h i l = ⊎_elim (λ lt. s.covers.before i lt) (λ ge. s.covers.after i (omega arith) l) (cases_lt i s.first)
-
--- the strip is the voxels of a slab at height l, over the stretch of a column
-pub record VoxelLine (s : Slab) (c : Column) (l : ℕ) (strip : Strip) : Type 0 where
-  pub start : strip.line.start ≡ s.lowest.start + l * s.rise
-  pub stride : strip.line.stride ≡ s.lowest.stride
-  pub edges : strip.line.edges ≡ s.lowest.edges
-  pub over : strip.over ≡ c.over
 
 module _ (L : Landing) (slab : Slab) (column : Column) (sl : SlabOf L slab) (co : ColumnOf L column) where
   abbrev j : ℕ

@@ -91,6 +91,13 @@ pub record Meets (s : Slab) (c : Column) (strip : Strip) : Type 0 where
   pub line : strip.line ≡ s.lowest
   pub over : strip.over ≡ c.over
 
+-- The strip is the voxels of a slab at height l, over the stretch of a column.
+pub record VoxelLine (s : Slab) (c : Column) (l : ℕ) (strip : Strip) : Type 0 where
+  pub start : strip.line.start ≡ s.lowest.start + l * s.rise
+  pub stride : strip.line.stride ≡ s.lowest.stride
+  pub edges : strip.line.edges ≡ s.lowest.edges
+  pub over : strip.over ≡ c.over
+
 -- The strip is the cells of a column, over the stretch of height l.
 pub record CellLine (s : Slab) (c : Column) (l : ℕ) (strip : Strip) : Type 0 where
   pub line : strip.line ≡ c.cells

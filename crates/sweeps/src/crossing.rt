@@ -1,6 +1,6 @@
 ghost use Rattle.std.specs.Prelude.{◌*◌, ◌<◌, length};
 ghost use Rattle.sweeps.specs.Strips.{strip_share};
-ghost use Rattle.sweeps.specs.Passes.{Sized, Swept, Placed, beam_weight, column_weight, SlabOf, ColumnOf, Meets};
+ghost use Rattle.sweeps.specs.Passes.{Sized, Swept, Placed, beam_weight, column_weight, SlabOf, ColumnOf, Meets, VoxelLine, CellLine};
 
 use crate::carry::carry;
 use crate::pass::{Column, Pass, Slab, Way};
@@ -38,17 +38,30 @@ impl<V: Value, L: Landed> Crossing<'_, V, L> {
         requires height { height < (L.Landed.landing self.now.pass.now.view.now).heights }
         ensures { Swept V.Value.ops self.now.pass.now (beam_weight (L.Landed.landing self.now.pass.now.view.now) self.now.slab.number self.now.column.number height) to.old to.new }
     {
-        let cells = self
-            .column
-            .cells
-            .over(self.slab.heights.stretch(height), near);
+        let cells = self.cells_at(height, near);
         if cells.first < cells.last {
-            let voxels = self
-                .voxels
-                .moved(self.slab.lowest.start + height * self.slab.rise);
-            exchange(self.pass, voxels, cells, to);
+            exchange(self.pass, self.voxels_at(height), cells, to);
         }
         cells.first
+    }
+
+    // The voxels of the slab at a height, over the column's stretch.
+    fn voxels_at(&self, height: usize) -> Strip<'_>
+        requires { height < (L.Landed.landing self.now.pass.now.view.now).heights }
+        ensures { VoxelLine self.now.slab self.now.column height result }
+    {
+        self.voxels
+            .moved(self.slab.lowest.start + height * self.slab.rise)
+    }
+
+    // The cells of the column over the stretch of a height.
+    fn cells_at(&self, height: usize, near: usize) -> Strip<'_>
+        requires { height < (L.Landed.landing self.now.pass.now.view.now).heights }
+        ensures { CellLine self.now.slab self.now.column height result }
+    {
+        self.column
+            .cells
+            .over(self.slab.heights.stretch(height), near)
     }
 }
 
