@@ -5,7 +5,6 @@ use crate::crossing::Crossing;
 use crate::edges::LandedEdges;
 use crate::pass::{Column, Pass, Slab};
 use crate::strip::Line;
-use crate::table::filled;
 use geometry::direction::SlabAxis;
 use geometry::stretch::Stretch;
 use scan::landed::Landed;
@@ -47,14 +46,12 @@ impl<'a, V: Value, L: Landed> Block<'a, V, L> {
         // Arrays on the stack: a sweep allocates nothing.
         let mut crosses = [0i64; MOST_EDGES];
         let mut heights = [0i64; MOST_EDGES];
-        let crosses = filled(&mut crosses[0..view.crosses() + 1], |i| {
+        let crosses = LandedEdges::filled(&mut crosses[0..view.crosses() + 1], |i| {
             view.cross_edge(number, i)
         });
-        let heights = filled(&mut heights[0..view.heights() + 1], |i| {
+        let heights = LandedEdges::filled(&mut heights[0..view.heights() + 1], |i| {
             view.height_edge(number, i)
         });
-        let crosses = LandedEdges { at: crosses };
-        let heights = LandedEdges { at: heights };
         self.sweep_columns(slab_of(view, number, crosses, heights), to);
     }
 

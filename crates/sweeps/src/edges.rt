@@ -1,6 +1,7 @@
-ghost use Rattle.std.specs.Prelude.{◌≡◌, ℕ, ◌+◌, ◌-◌, ◌<◌, ◌≤◌, length, pos, ◌≤ℤ◌, slice_index_or};
+ghost use Rattle.std.specs.Prelude.{◌≡◌, ℕ, ◌+◌, ◌-◌, ◌<◌, ◌≤◌, length, ℤ, pos, ◌≤ℤ◌, slice_index_or};
 ghost use Rattle.sweeps.specs.Runs.{Rising};
 
+use crate::table::filled;
 use geometry::stretch::Stretch;
 
 // The landed edges of cells side by side, at least one edge, which never go down.
@@ -11,7 +12,20 @@ pub(crate) struct LandedEdges<'a> {
     ghost rises: { Rising at.now },
 }
 
-impl LandedEdges<'_> {
+impl<'a> LandedEdges<'a> {
+    // The edges of a table, each computed once.
+    pub(crate) fn filled<F: Fn(usize) -> i64>(table: &'a mut [i64], edge: F) -> LandedEdges<'a>
+        requires callable { (i : ℕ) → i < length table.old → F.pre edge i }
+        requires some { 0 < length table.old }
+        requires rises { (i : ℕ) (v w : ℤ) → i + 1 < length table.old → F.post edge i v → F.post edge (i + 1) w → v ≤ℤ w }
+        ensures length { length result.at.now ≡ length table.old }
+        ensures edges { (i : ℕ) → i < length result.at.now → F.post edge i (slice_index_or result.at.now i (pos 0)) }
+    {
+        LandedEdges {
+            at: filled(table, edge),
+        }
+    }
+
     // The number of cells.
     pub(crate) fn cells(self) -> usize
         ensures { result ≡ length self.entry.at.now - 1 }
