@@ -3,7 +3,7 @@ ghost use Rattle.sweeps.specs.Passes.{Sized, Swept, column_weight, slab_weight, 
 
 use crate::crossing::Crossing;
 use crate::edges::LandedEdges;
-use crate::pass::{Column, Pass, Slab};
+use crate::pass::{Column, Pass, RunStarts, Slab};
 use crate::strip::Line;
 use geometry::direction::SlabAxis;
 use geometry::stretch::Stretch;
@@ -31,13 +31,14 @@ impl<'a, V: Value, L: Landed> Block<'a, V, L> {
         requires { Sized (L.Landed.landing self.now.pass.now.view.now) self.now.pass.now (length to.old) }
         ensures { Swept V.Value.ops self.now.pass.now (block_weight (L.Landed.landing self.now.pass.now.view.now) self.now.first (length self.now.columns.now - 1)) to.old to.new }
     {
+        let mut near = RunStarts { voxels: 0, rows: 0 };
         for number in 0..self.pass.view.slabs() {
-            self.sweep_slab(number, to);
+            near = self.sweep_slab(number, near, to);
         }
     }
 
     // One slab: its edges are computed once for the block, into tables of their numbers.
-    fn sweep_slab(&self, number: usize, to: &mut [V])
+    fn sweep_slab(&self, number: usize, near: RunStarts, to: &mut [V]) -> RunStarts
         requires sized { Sized (L.Landed.landing self.now.pass.now.view.now) self.now.pass.now (length to.old) }
         requires number { number < (L.Landed.landing self.now.pass.now.view.now).slabs }
         ensures { Swept V.Value.ops self.now.pass.now (slab_weight (L.Landed.landing self.now.pass.now.view.now) self.now.first (length self.now.columns.now - 1) number) to.old to.new }
@@ -52,20 +53,20 @@ impl<'a, V: Value, L: Landed> Block<'a, V, L> {
         let heights = LandedEdges::filled(&mut heights[0..view.heights() + 1], |i| {
             view.height_edge(number, i)
         });
-        self.sweep_columns(slab_of(view, number, crosses, heights), to);
+        self.sweep_columns(slab_of(view, number, crosses, heights), near, to)
     }
 
-    // Column after column.
-    fn sweep_columns(&self, slab: Slab<'_>, to: &mut [V])
+    // Column after column. The runs found for one are where the next one's search begins.
+    fn sweep_columns(&self, slab: Slab<'_>, near: RunStarts, to: &mut [V]) -> RunStarts
         requires sized { Sized (L.Landed.landing self.now.pass.now.view.now) self.now.pass.now (length to.old) }
         requires slab { SlabOf (L.Landed.landing self.now.pass.now.view.now) slab }
         ensures { Swept V.Value.ops self.now.pass.now (slab_weight (L.Landed.landing self.now.pass.now.view.now) self.now.first (length self.now.columns.now - 1) slab.entry.number) to.old to.new }
     {
-        let mut near = 0;
-        // The run found for one column is where the next one's search begins.
+        let mut near = near;
         for offset in 0..self.columns.len() - 1 {
             near = sweep_column(self.pass, slab, self.column(offset), near, to);
         }
+        near
     }
 
     // A column by its number in the block.
@@ -90,20 +91,21 @@ impl<'a, V: Value, L: Landed> Block<'a, V, L> {
     }
 }
 
-// One slab and one column. Answers where the run of voxels begins, for the next column.
+// One slab and one column. Answers where their runs begin, for the next column.
 fn sweep_column<V: Value, L: Landed>(
     pass: &Pass<'_, V, L>,
     slab: Slab<'_>,
     column: Column<'_>,
-    near: usize,
+    near: RunStarts,
     to: &mut [V],
-) -> usize
+) -> RunStarts
     requires sized { Sized (L.Landed.landing pass.now.view.now) pass.now (length to.old) }
     requires slab { SlabOf (L.Landed.landing pass.now.view.now) slab }
     requires column { ColumnOf (L.Landed.landing pass.now.view.now) column }
     ensures { Swept V.Value.ops pass.now (column_weight (L.Landed.landing pass.now.view.now) slab.entry.number column.entry.number) to.old to.new }
 {
-    let voxels = slab.lowest.over(column.over, near);
+    let voxels = slab.lowest.over(column.over, near.voxels);
+    let mut rows = near.rows;
     if voxels.first < voxels.last {
         let crossing = Crossing {
             pass,
@@ -111,9 +113,12 @@ fn sweep_column<V: Value, L: Landed>(
             column,
             voxels,
         };
-        crossing.sweep(to);
+        rows = crossing.sweep(rows, to);
     }
-    voxels.first
+    RunStarts {
+        voxels: voxels.first,
+        rows,
+    }
 }
 
 // Where the voxels of a slab stand, with its edges.

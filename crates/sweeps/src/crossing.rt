@@ -21,15 +21,21 @@ pub(crate) struct Crossing<'a, V, L: Landed> {
 }
 
 impl<V: Value, L: Landed> Crossing<'_, V, L> {
-    // Height after height of the slab.
-    pub(crate) fn sweep(&self, to: &mut [V])
+    // Height after height of the slab. Answers where the run of rows over the lowest begins, for the next column.
+    pub(crate) fn sweep(&self, near: usize, to: &mut [V]) -> usize
         requires { Sized (L.Landed.landing self.now.pass.now.view.now) self.now.pass.now (length to.old) }
         ensures { Swept V.Value.ops self.now.pass.now (column_weight (L.Landed.landing self.now.pass.now.view.now) self.now.slab.number self.now.column.number) to.old to.new }
     {
-        let mut near = 0;
+        let lowest = self
+            .column
+            .cells
+            .edges
+            .run_start(self.slab.heights.at[0], near);
+        let mut near = lowest;
         for height in 0..self.slab.heights.cells() {
             near = self.sweep_height(height, near, to);
         }
+        lowest
     }
 
     // Carries what one line of voxels and the column exchange. Answers where the run of rows begins, for the next height.

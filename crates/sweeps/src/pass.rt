@@ -30,6 +30,14 @@ pub(crate) struct Slab<'a> {
     pub(crate) heights: LandedEdges<'a>,
 }
 
+// Where the runs of a slab and a column begin: that of its voxels, and that of the rows over its lowest height. They are
+// where the search for the next column's runs begins, and any numbers would do.
+#[derive(Clone, Copy)]
+pub(crate) struct RunStarts {
+    pub(crate) voxels: usize,
+    pub(crate) rows: usize,
+}
+
 // One detector column: its cells, and its stretch of the common plane.
 #[derive(Clone, Copy)]
 pub(crate) struct Column<'a> {

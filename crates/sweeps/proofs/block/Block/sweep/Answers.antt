@@ -14,7 +14,7 @@ loop-number-preserved g c =
     let b = c.args.self.now in
     let L = g.L.Landed.landing b.pass.now.view.now in
     summed_more g.met.V.Value.lawful b.pass.now c.args.to.now (slab_weight L b.first (length b.columns.now - 1))
-    c.loop-number.number c.loop-number.to c.sweep_slab.new.to c.loop-number.auto.to c.loop-number.invariant c.sweep_slab.ensures
+    c.loop-number.number c.loop-number.to c.sweep_slab-near.new.to c.loop-number.auto.to c.loop-number.invariant c.sweep_slab-near.ensures
 
 pub returns : goal.returns
 unfolding block_weight
