@@ -7,7 +7,7 @@ pub record Placed (D Q : ℤ) : Type 0 where
   pub most : nat_abs D ≤ 2 ^ 24
   pub near : nat_abs Q < nat_abs D
 
--- the detector's edge k lies less than F from 0
+-- the panel's edge k lies less than F from 0
 pub record Reached (F k : ℤ) : Type 0 where
   pub some : pos 0 <ℤ F
   pub most : nat_abs F ≤ 2 ^ 26

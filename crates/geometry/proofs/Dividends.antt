@@ -1,5 +1,5 @@
 -- The dividends and the divisors of the landed edges, as the code makes them: what each step means, its bound, and that it fits.
--- Each bound stays below 2 ^ 63. Assumes nothing.
+-- Each bound stays below 2 ^ 63.
 use Rattle.std.proofs.Common.{◌+◌, ◌^◌, ℤ, pos, ◌+ℤ◌, ◌-ℤ◌, ◌*ℤ◌, arith, lit<}
 use Rattle.geometry.specs.declared.direction.Direction.{Direction}
 use Rattle.geometry.specs.declared.distances.Distances.{Distances}

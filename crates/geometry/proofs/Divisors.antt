@@ -1,4 +1,4 @@
--- The divisors of the landed edges are not 0, and lie on a's side of it. Assumes nothing.
+-- The divisors of the landed edges are not 0, and lie on a's side of it.
 use Rattle.std.proofs.Common.{◌<◌, ℤ, pos, ◌-ℤ◌, ◌*ℤ◌, nat_abs, mul-le-mul_left, mul-lt-mul_of_pos_right, arith}
 use Rattle.std.proofs.lemmas.Int.{unsigned_abs-mul}
 use borrow.Author.Differences.{ints}

@@ -1,4 +1,4 @@
--- Laws of floor division. Assumes nothing.
+-- Laws of floor division.
 use Rattle.std.proofs.Common.{◌≡◌, ℕ, zero, suc, ◌*◌, ◌<◌, ◌≤◌, ℤ, pos, negsuc, ◌+ℤ◌, ◌*ℤ◌, neg_ℤ, nat_abs, ◌≤ℤ◌, ◌<ℤ◌, sym, ap, ◌∙◌, zero-lt-suc, div-lt_iff_lt-mul, arith}
 use native.Mathlib.Nat.{div-le_of_le-mul}
 use lib.IntN.{*ℤ_comm}

@@ -1,4 +1,4 @@
--- The landed edges of the voxels and of the rows never fall, and those of the columns go one way, by the side of a. Assumes nothing.
+-- The landed edges of the voxels and of the rows never fall, and those of the columns go one way, by the side of a.
 use Rattle.std.proofs.Common.{◌≡◌, ℤ, pos, ◌+ℤ◌, ◌-ℤ◌, ◌*ℤ◌, ◌≤ℤ◌, ◌<ℤ◌, sym, ap, ◌∙◌, arith}
 use lib.IntN.{*ℤ_comm}
 use borrow.Author.Differences.{ints}

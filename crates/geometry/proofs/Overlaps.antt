@@ -1,4 +1,4 @@
--- The overlaps with stretches that follow one another add up to the overlap with the whole; and the laws of one overlap. Assumes nothing.
+-- The overlaps with stretches that follow one another add up to the overlap with the whole; and the laws of one overlap.
 use Rattle.std.proofs.Common.{◌≡◌, ℕ, zero, suc, ◌-◌, ◌<◌, ◌≤◌, ℤ, pos, negsuc, ◌+ℤ◌, ◌-ℤ◌, nat_abs, ◌≤ℤ◌, ap, ◌∙◌, inl, inr, arith}
 use lib.Signed.{≤ℤ_refl}
 use borrow.Author.Differences.{ints, up, down}

@@ -1,4 +1,4 @@
--- The laws of products of signed numbers that the logic's library lacks, and how products keep or turn an order. Assumes nothing.
+-- The laws of products of signed numbers that the logic's library lacks, and how products keep or turn an order.
 use Rattle.std.proofs.Common.{◌≡◌, ℕ, suc, ◌*◌, ℤ, pos, negsuc, ◌+ℤ◌, ◌-ℤ◌, ◌*ℤ◌, neg_ℤ, ◌≤ℤ◌, ◌<ℤ◌, ap, ◌∙◌, mul-le-mul_right, arith}
 use lib.IntN.{*ℤ_comm, *ℤ-negsuc}
 use borrow.Author.Differences.{ints, up, down, same_in, product_is, sum_is_lem, neg_is, le_out, lt_out}

@@ -1,4 +1,4 @@
--- The size and the side of sums and products of signed numbers. Assumes nothing.
+-- The size and the side of sums and products of signed numbers.
 use Rattle.std.proofs.Common.{◌≡◌, ℕ, zero, suc, ◌+◌, ◌*◌, ◌^◌, ◌<◌, ◌≤◌, ℤ, pos, negsuc, ◌+ℤ◌, ◌-ℤ◌, ◌*ℤ◌, nat_abs, ◌<ℤ◌, ap, ◌∙◌, mul-le-mul, arith, w64, SFits}
 use Rattle.std.proofs.lemmas.Int.{unsigned_abs-mul}
 use borrow.Author.Differences.{ints}

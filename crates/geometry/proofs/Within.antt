@@ -1,4 +1,4 @@
--- Bounds of the dividends, and of where the edges of voxels land. Assumes nothing.
+-- Bounds of the dividends, and of where the edges of voxels land.
 use Rattle.std.proofs.Common.{ℕ, ◌+◌, ◌*◌, ◌^◌, ◌≤◌, ℤ, pos, ◌+ℤ◌, ◌*ℤ◌, nat_abs, refl, mul-le-mul_right, mul-le-mul, mul-le-mul_left, arith}
 use Rattle.std.proofs.lemmas.Int.{unsigned_abs-mul}
 use borrow.Author.Differences.{ints}

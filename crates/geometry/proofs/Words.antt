@@ -1,5 +1,5 @@
 -- Sums and products of i64 as the code has them, where each step goes through its bits: what a step means, a bound of its size, and
--- that it fits. Assumes nothing.
+-- that it fits.
 use Rattle.std.proofs.Common.{◌≡◌, ℕ, ◌+◌, ◌*◌, ◌^◌, ◌<◌, ◌≤◌, ℤ, pos, ◌+ℤ◌, ◌-ℤ◌, ◌*ℤ◌, nat_abs, sym, refl, ap, ◌∙◌, subst, arith, w64, SFits, to_z, of_z}
 use Rattle.std.proofs.lemmas.Int.{to_z-of_z}
 use Rattle.geometry.proofs.Size.{times_within, plus_within, minus_within, within_fits}

@@ -1,7 +1,7 @@
 // A cell of an axis.
 use crate::edge::Edge;
 
-// The two edges of a cell.
+/// The two edges of a cell.
 #[derive(Clone, Copy, PartialEq, Eq, Debug)]
 pub struct Cell {
     pub low: Edge,

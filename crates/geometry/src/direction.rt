@@ -1,7 +1,7 @@
 // The direction of a view.
 ghost use Rattle.geometry.specs.Steep.{Steep};
 
-// The axis whose cells are the slabs: the one along which the central ray runs more, and y at a tie.
+/// The axis whose cells are the slabs: the one along which the central ray runs more, and y at a tie.
 #[derive(Clone, Copy, PartialEq, Eq, Debug)]
 pub enum SlabAxis {
     X,
@@ -11,14 +11,14 @@ pub enum SlabAxis {
 // The unit of sines and cosines.
 pub(crate) const R: i64 = 16_384;
 
-// The sine and the cosine of a step, in 16384ths.
+/// The sine and the cosine of a step, in 16384ths.
 #[derive(Clone, Copy, PartialEq, Eq, Debug)]
 pub struct Heading {
     pub s: i64,
     pub c: i64,
 }
 
-// (a, b) is (c, s) where the slabs are the cells of y and (s, -c) where they are the cells of x; |b| <= |a|.
+/// (a, b) is (c, s) where the slabs are the cells of y and (s, -c) where they are the cells of x; |b| <= |a|.
 #[derive(Clone, Copy, PartialEq, Eq, Debug)]
 pub struct Direction {
     pub slabs: SlabAxis,

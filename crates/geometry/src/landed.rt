@@ -1,4 +1,4 @@
-// Where the edges of voxels and of detector cells land on the common plane, which holds the rotation axis and lies
+// Where the edges of voxels and of panel cells land on the common plane, which holds the rotation axis and lies
 // across the slab axis. Each landed edge is one division that rounds down.
 // No admitted plan makes a divisor 0; an edge whose divisor is 0 lands at 0.
 ghost use Rattle.std.specs.Prelude.{◌≡◌, ◌^◌, ◌≤◌, pos, ◌+ℤ◌, ◌*ℤ◌, unsigned_abs};
@@ -10,7 +10,7 @@ use crate::distances::Distances;
 use crate::edge::Edge;
 use crate::floor::floor_div;
 
-// How the source and the panel stand in one view: how far away, and which way.
+/// How the source and the panel stand in one view: how far away, and which way.
 #[derive(Clone, Copy, PartialEq, Eq, Debug)]
 pub struct Pose {
     pub distances: Distances,
@@ -72,7 +72,7 @@ impl Pose {
         2 * self.distances.source * self.direction.a * z.at
     }
 
-    // Where the edge e of a voxel, across the slab axis, lands from a slab.
+    /// Where the edge e of a voxel, across the slab axis, lands from a slab.
     pub fn cross_edge(self, slab: Cell, e: Edge) -> i64
         ensures { result ≡ cross_edge self.distances.source self.direction.a self.direction.b (slab_sum self.direction.slabs slab.low.at slab.high.at) e.at }
     {
@@ -80,14 +80,14 @@ impl Pose {
         floor_div(self.cross_dividend(middle, e), self.depth(middle))
     }
 
-    // Where the edge z of a voxel, along the rotation axis, lands from a slab.
+    /// Where the edge z of a voxel, along the rotation axis, lands from a slab.
     pub fn height_edge(self, slab: Cell, z: Edge) -> i64
         ensures { result ≡ height_edge self.distances.source self.direction.a (slab_sum self.direction.slabs slab.low.at slab.high.at) z.at }
     {
         floor_div(self.height_dividend(z), self.depth(self.slab_sum(slab)))
     }
 
-    // Where the edge k of a detector column lands.
+    /// Where the edge k of a panel column lands.
     pub fn column_edge(self, k: Edge) -> i64
         ensures { result ≡ column_edge self.distances.source self.distances.panel self.direction.a self.direction.b k.at }
     {
@@ -95,7 +95,7 @@ impl Pose {
         floor_div(self.distances.column_dividend(k), slant)
     }
 
-    // Where the edge g of a detector row lands, from the middle of a column.
+    /// Where the edge g of a panel row lands, from the middle of a column.
     pub fn row_edge(self, column: Cell, g: Edge) -> i64
         ensures { result ≡ row_edge self.distances.source self.distances.panel self.direction.a self.direction.b (column.low.at +ℤ column.high.at) g.at }
     {

@@ -1,5 +1,5 @@
 //! The geometry of the distance-driven method of De Man and Basu (2004) for a cone beam and a flat panel: where the edges
-//! of voxels and of detector cells land on a common plane, and how far the stretches between two edges overlap.
+//! of voxels and of panel cells land on a common plane, and how far the stretches between two edges overlap.
 #![tactic(auto)]
 
 pub mod cell;
@@ -9,7 +9,7 @@ pub mod edge;
 mod floor;
 pub mod landed;
 pub mod no_step;
-pub mod overlap;
+mod overlap;
 pub mod step;
 pub mod stretch;
 pub mod turn;

@@ -6,7 +6,7 @@ use crate::step::{LAST_STEP, Step};
 use std::error::Error;
 use std::fmt;
 
-// A number that no step has.
+/// A number that no step has.
 #[derive(Clone, Copy, PartialEq, Eq, Debug)]
 pub struct NoStep {
     pub number: i32,

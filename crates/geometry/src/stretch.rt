@@ -5,7 +5,7 @@ ghost use Rattle.geometry.specs.Overlap.{overlap, Conserved, EitherWay};
 
 use crate::overlap::gap;
 
-// What lies between two ends of an axis, the lower end first.
+/// What lies between two ends of an axis, the lower end first.
 #[derive(Clone, Copy, PartialEq, Eq, Debug)]
 pub struct Stretch {
     pub low: i64,
@@ -14,7 +14,7 @@ pub struct Stretch {
 }
 
 impl Stretch {
-    // The stretch between two ends, which stand in either order.
+    /// The stretch between two ends, which stand in either order.
     pub fn between(one: i64, other: i64) -> Stretch
         ensures low { result.low ≡ int_min one other }
         ensures high { result.high ≡ int_max one other }
@@ -25,8 +25,8 @@ impl Stretch {
         }
     }
 
-    // How far two stretches overlap. The overlaps of a stretch with stretches that follow one another one way add up to
-    // its overlap with the whole: nothing is lost or counted twice. Which end of a stretch comes first does not matter.
+    /// How far two stretches overlap. The overlaps of a stretch with stretches that follow one another one way add up to
+    /// its overlap with the whole: nothing is lost or counted twice. Which end of a stretch comes first does not matter.
     pub fn overlap(self, other: Stretch) -> u64
         ensures value { result ≡ overlap self.low self.high other.low other.high }
         ensures conserved { Conserved }

@@ -5,7 +5,10 @@ ghost use Rattle.geometry.specs.Turn.{sine, sin_of, cos_of, Round, slab_axis, ma
 use crate::direction::{Direction, Heading, SlabAxis};
 use crate::step::Step;
 
-// The sines of the 16 steps of a quarter turn, and of its end.
+// The steps of a quarter turn.
+const QUARTER: usize = 16;
+
+// The sines of the steps of a quarter turn, and of its end.
 const SINES: [i64; 17] = [
     0, 1606, 3196, 4756, 6270, 7723, 9102, 10394, 11585, 12665, 13623, 14449, 15137, 15679, 16069,
     16305, 16384,
@@ -20,24 +23,24 @@ fn sine_of(r: usize) -> i64
     SINES[r]
 }
 
-// The sine and the cosine of a step, counted counter-clockwise from the y axis.
+/// The sine and the cosine of a step, counted counter-clockwise from the y axis.
 pub fn heading(step: Step) -> Heading
     ensures sin { result.s ≡ sin_of step.number }
     ensures cos { result.c ≡ cos_of step.number }
     ensures round { Round result.s result.c }
 {
-    let up = sine_of(step.number % 16);
-    let down = sine_of(16 - step.number % 16);
+    let up = sine_of(step.number % QUARTER);
+    let down = sine_of(QUARTER - step.number % QUARTER);
     let quarters = [
         Heading { s: up, c: down },
         Heading { s: down, c: -up },
         Heading { s: -up, c: -down },
         Heading { s: -down, c: up },
     ];
-    quarters[step.number / 16]
+    quarters[step.number / QUARTER]
 }
 
-// The slab axis of a step, and the a and b that go with it.
+/// The slab axis of a step, and the a and b that go with it.
 pub fn direction(step: Step) -> Direction
     ensures slabs { result.slabs ≡ slab_axis step.number }
     ensures main { result.a ≡ main_of step.number }

@@ -1,4 +1,4 @@
--- The first number at which a test holds. Assumes nothing.
+-- The first number at which a test holds.
 use Rattle.std.specs.Prelude.{◌≡◌, ℕ, zero, suc, ◌+◌, ◌<◌, ◌≤◌, Bool, false, None}
 use Rattle.std.specs.List.{find, range_with_len}
 use Rattle.std.proofs.Common.{arith}

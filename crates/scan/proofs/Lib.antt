@@ -1,3 +1,3 @@
+pub mod Clearance
 pub mod Firsts
 pub mod Propers
-pub mod Reached

@@ -1,4 +1,4 @@
--- Edges that pass every check are those of an axis. Assumes nothing.
+-- Edges that pass every check are those of an axis.
 use Rattle.std.specs.Prelude.{◌≡◌, ℕ, ◌+◌, ◌-◌, ◌<◌, ◌≤◌, min, Bool, List, length, ℤ, pos, None, int_le, nat_lt, slice_index_or, unsigned_abs, refl}
 use Rattle.std.proofs.Common.{sym, ap, ◌∙◌, arith, w32, SFits}
 use Rattle.std.proofs.lemmas.Int.{ints}

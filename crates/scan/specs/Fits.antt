@@ -1,4 +1,4 @@
--- Every layout fits. Assumes nothing.
+-- Every layout fits.
 use Rattle.std.specs.Prelude.{◌≡◌, ℕ, zero, suc, ◌<◌, List, [], ◌∷◌, length, ℤ, vec_items, vec_len, Vec, slice_index, slice_index_or}
 use Rattle.std.proofs.Common.{sym, ap, ◌∙◌, arith}
 use Rattle.std.specs.declared.alloc.Global.{Global}
@@ -36,8 +36,8 @@ fitted layout =
       z = layout.z.proper;
       column = layout.column.proper;
       row = layout.row.proper;
-      near = layout.near;
-      reaches = layout.reaches;
+      clear = layout.clear;
+      nearer = layout.nearer;
       steps = step_below (vec_items layout.views);
       views = omega (arith, views_length layout.views, layout.few);
     }

@@ -4,7 +4,7 @@ use Rattle.geometry.specs.Overlap.{overlap}
 use Rattle.geometry.specs.declared.direction.SlabAxis.{SlabAxis}
 use Rattle.geometry.specs.declared.direction.SlabAxis.TheVariants.{X, Y}
 
--- One view: its slab axis, its numbers of cells, and its landed edges U (of a slab), W (of a slab), S, and T (of a column), each by number.
+-- One view: its slab axis, its numbers of cells, and where its edges land: U j i is edge i of the cross axis in slab j, W j l edge l of z in slab j, S k edge k of the columns, and T k m edge m of the rows in column k.
 pub record Landing : Type 0 where
   pub along : SlabAxis
   pub slabs : ℕ
@@ -65,16 +65,16 @@ weight L x c =
     * height_overlap L (slab_of L x) (height_of L x) (c % L.columns) (c / L.columns)
 
 -- The limits of every number of cells: 1 to 512.
-abbrev pub Counted : ℕ → Type 0
-Counted n = (1 ≤ n) × (n ≤ 512)
+abbrev pub CellLimits : ℕ → Type 0
+CellLimits n = (1 ≤ n) × (n ≤ 512)
 
 -- What holds of every view: along each axis there are 1 to 512 cells, U, W and T never go down, S goes one way, and U and W lie within 2^25 of 0.
 pub record Sound (L : Landing) : Type 0 where
-  pub slabs : Counted L.slabs
-  pub crosses : Counted L.crosses
-  pub heights : Counted L.heights
-  pub columns : Counted L.columns
-  pub rows : Counted L.rows
+  pub slabs : CellLimits L.slabs
+  pub crosses : CellLimits L.crosses
+  pub heights : CellLimits L.heights
+  pub columns : CellLimits L.columns
+  pub rows : CellLimits L.rows
   pub U_rises : (j i : ℕ) → L.U j i ≤ℤ L.U j (i + 1)
   pub W_rises : (j l : ℕ) → L.W j l ≤ℤ L.W j (l + 1)
   pub T_rises : (k m : ℕ) → L.T k m ≤ℤ L.T k (m + 1)

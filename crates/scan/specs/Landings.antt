@@ -1,4 +1,4 @@
--- The edges of a scan that fits land soundly from every direction. Assumes nothing.
+-- The edges of a scan that fits land soundly from every direction.
 use Rattle.std.specs.Prelude.{ℕ, zero, suc, ◌+◌, ◌-◌, ◌*◌, ◌/◌, ◌%◌, ◌^◌, ◌<◌, ◌≤◌, min, max, List, [], ◌∷◌, length, ℤ, pos, ◌*ℤ◌, ◌≤ℤ◌, ◌<ℤ◌, fold, slice_index_or, unsigned_abs}
 use Rattle.std.proofs.Common.{inl, inr, arith}
 use Rattle.std.proofs.Math.Nat.{mul-le-mul}
@@ -14,8 +14,8 @@ use Rattle.geometry.proofs.OneWay.{cross_rises, height_rises, row_rises, column_
 use Rattle.geometry.proofs.Within.{cross_dividend, height_dividend, column_dividend, cross_within, height_within}
 use Rattle.geometry.proofs.Overlaps.{overlap_most}
 use Rattle.scan.specs.Axes.{Proper, cells_of, edge_of}
-use Rattle.scan.specs.Landing.{Landing, Sound, Counted, weight, cross_overlap, height_overlap, slab_of, cross_of, height_of}
-use Rattle.scan.specs.Plans.{Scan, Fitted, greatest, slab_edges, cross_edges, slab_middle, column_middle, low_of, high_of, cell_of, landing_of, landing, step_of}
+use Rattle.scan.specs.Landing.{Landing, Sound, CellLimits, weight, cross_overlap, height_overlap, slab_of, cross_of, height_of}
+use Rattle.scan.specs.Plans.{Scan, Fitted, greatest, slab_edges, cross_edges, slab_sum_of, column_sum_of, low_of, high_of, cell_of, landing_of, landing, step_of}
 use Rattle.scan.specs.Lands.{Divides, Lands}
 use Rattle.scan.specs.Numbered.{edge_within, edge_rises}
 use Rattle.geometry.proofs.Conditions.{Placed, Reached}
@@ -35,7 +35,7 @@ fold_bounds m (e ∷ es) (suc i) l = fold_bounds (max m (unsigned_abs e)) es i (
 pub edge_most : (es : List ℤ) → Proper es → (i : ℕ) → unsigned_abs (edge_of es i) ≤ greatest es
 edge_most es p i = fold_bounds 0 es (min i (length es - 1)) (omega (arith, p.least))
 
-counted : (es : List ℤ) → Proper es → Counted (cells_of es)
+counted : (es : List ℤ) → Proper es → CellLimits (cells_of es)
 counted es p = (omega (arith, p.least), omega (arith, p.most))
 
 sum_size : (along : SlabAxis) (low high : ℤ) → unsigned_abs (slab_sum along low high) ≤ unsigned_abs low + unsigned_abs high
@@ -52,13 +52,13 @@ module _ (scan : Scan) (fitted : Fitted scan) (along : SlabAxis) (a b : ℤ) (st
   slab_near : (e : ℕ) → 2 * unsigned_abs (edge_of (slab_edges scan along) e) < unsigned_abs scan.source
   slab_near e =
       elim along as (λ s. 2 * unsigned_abs (edge_of (slab_edges scan s) e) < unsigned_abs scan.source)
-      [ X ↦ omega (arith, edge_most scan.x fitted.x e, fitted.near) | Y ↦ omega (arith, edge_most scan.y fitted.y e, fitted.near) ]
+      [ X ↦ omega (arith, edge_most scan.x fitted.x e, fitted.clear) | Y ↦ omega (arith, edge_most scan.y fitted.y e, fitted.clear) ]
 
   -- the sum of a slab's edges, whichever its sign
-  middle_size : (j : ℕ) → unsigned_abs (slab_middle scan along j) ≤ unsigned_abs (low_of (slab_edges scan along) j) + unsigned_abs (high_of (slab_edges scan along) j)
+  middle_size : (j : ℕ) → unsigned_abs (slab_sum_of scan along j) ≤ unsigned_abs (low_of (slab_edges scan along) j) + unsigned_abs (high_of (slab_edges scan along) j)
   middle_size j = sum_size along (low_of (slab_edges scan along) j) (high_of (slab_edges scan along) j)
 
-  placed : (j : ℕ) → Placed scan.source (slab_middle scan along j)
+  placed : (j : ℕ) → Placed scan.source (slab_sum_of scan along j)
   placed j =
       record {
         some = omega (arith, ints, fitted.source_least);
@@ -66,13 +66,13 @@ module _ (scan : Scan) (fitted : Fitted scan) (along : SlabAxis) (a b : ℤ) (st
         near = omega (arith, middle_size j, slab_near (cell_of (slab_edges scan along) j), slab_near (cell_of (slab_edges scan along) j + 1));
       }
 
-  middle_within : (j : ℕ) → unsigned_abs (slab_middle scan along j) ≤ 8388608
+  middle_within : (j : ℕ) → unsigned_abs (slab_sum_of scan along j) ≤ 8388608
   middle_within j =
       let es = slab_edges scan along in
       omega (arith, middle_size j, edge_within es slabs_proper (cell_of es j), edge_within es slabs_proper (cell_of es j + 1))
 
   column_near : (k : ℕ) → unsigned_abs (edge_of scan.column k) < unsigned_abs scan.panel
-  column_near k = fitted.reaches (min k (length scan.column - 1)) (omega (arith, fitted.column.least))
+  column_near k = fitted.nearer (min k (length scan.column - 1)) (omega (arith, fitted.column.least))
 
   reached : (k : ℕ) → Reached scan.panel (edge_of scan.column k)
   reached k =
@@ -82,7 +82,7 @@ module _ (scan : Scan) (fitted : Fitted scan) (along : SlabAxis) (a b : ℤ) (st
         near = column_near k;
       }
 
-  middle_reached : (k : ℕ) → Reached (pos 2 *ℤ scan.panel) (column_middle scan k)
+  middle_reached : (k : ℕ) → Reached (pos 2 *ℤ scan.panel) (column_sum_of scan k)
   middle_reached k =
       let r = reached k in
       let low = low_of scan.column k in
@@ -101,13 +101,13 @@ module _ (scan : Scan) (fitted : Fitted scan) (along : SlabAxis) (a b : ℤ) (st
   divides =
       let far : unsigned_abs scan.source ≤ 2 ^ 24 = (placed 0).most in
       record {
-        slab_divisor = λ j. (depth_beside scan.source a b (slab_middle scan along j) (placed j) steep).apart;
+        slab_divisor = λ j. (depth_beside scan.source a b (slab_sum_of scan along j) (placed j) steep).apart;
         cross_dividend = λ j i.
-            cross_dividend scan.source a b (slab_middle scan along j) (edge_of (cross_edges scan along) i) far steep (middle_within j) (edge_within _ crosses_proper i);
+            cross_dividend scan.source a b (slab_sum_of scan along j) (edge_of (cross_edges scan along) i) far steep (middle_within j) (edge_within _ crosses_proper i);
         height_dividend = λ l. omega (arith, height_dividend scan.source a b (edge_of scan.z l) far steep (edge_within scan.z fitted.z l));
         column_divisor = λ k. (slant_beside scan.panel a b (edge_of scan.column k) (reached k) steep).apart;
         column_dividend = λ k. omega (arith, column_dividend scan.source (edge_of scan.column k) far (edge_within scan.column fitted.column k));
-        row_divisor = λ k. (slant_beside (pos 2 *ℤ scan.panel) a b (column_middle scan k) (middle_reached k) steep).apart;
+        row_divisor = λ k. (slant_beside (pos 2 *ℤ scan.panel) a b (column_sum_of scan k) (middle_reached k) steep).apart;
         row_dividend = λ m. omega (arith, height_dividend scan.source a b (edge_of scan.row m) far steep (edge_within scan.row fitted.row m));
       }
 
@@ -124,7 +124,7 @@ module _ (scan : Scan) (fitted : Fitted scan) (along : SlabAxis) (a b : ℤ) (st
   pub sound : Sound (landing_of scan along a b)
   sound =
       let D = scan.source in
-      let Q : ℕ → ℤ = slab_middle scan along in
+      let Q : ℕ → ℤ = slab_sum_of scan along in
       record {
         slabs = counted _ slabs_proper;
         crosses = counted _ crosses_proper;
@@ -134,7 +134,7 @@ module _ (scan : Scan) (fitted : Fitted scan) (along : SlabAxis) (a b : ℤ) (st
         U_rises = λ j i. cross_rises D a b (Q j) (placed j) steep _ _ (edge_rises _ crosses_proper i);
         W_rises = λ j l. height_rises D a b (Q j) (placed j) steep _ _ (edge_rises scan.z fitted.z l);
         T_rises = λ k m.
-            row_rises D scan.panel a b (column_middle scan k) positive (middle_reached k) steep _ _ (edge_rises scan.row fitted.row m);
+            row_rises D scan.panel a b (column_sum_of scan k) positive (middle_reached k) steep _ _ (edge_rises scan.row fitted.row m);
         S_one_way = by_lt_z (pos 0) a (λ u. inl (S_rises u)) (λ v. inr (S_falls (omega (arith, ints, steep.least))));
         U_within = λ j i. omega (arith, cross_within D a b (Q j) (placed j) steep (edge_of (cross_edges scan along) i) (edge_within _ crosses_proper i) (middle_within j));
         W_within = λ j l. omega (arith, height_within D a b (Q j) (placed j) steep (edge_of scan.z l) (edge_within scan.z fitted.z l));

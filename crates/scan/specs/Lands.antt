@@ -6,16 +6,16 @@ use Rattle.geometry.specs.Landed.{depth, slant}
 use Rattle.geometry.specs.Turn.{slab_axis, main_of, side_of}
 use Rattle.scan.specs.Axes.{edge_of}
 use Rattle.scan.specs.Landing.{Sound}
-use Rattle.scan.specs.Plans.{Scan, cross_edges, slab_middle, column_middle, step_of, landing, weight_of}
+use Rattle.scan.specs.Plans.{Scan, cross_edges, slab_sum_of, column_sum_of, step_of, landing, weight_of}
 
 -- No division by which an edge lands is by zero, and none is of a number greater than 2^62.
 pub record Divides (scan : Scan) (along : SlabAxis) (a b : ℤ) : Type 0 where
-  pub slab_divisor : (j : ℕ) → 0 < unsigned_abs (depth scan.source a (slab_middle scan along j))
-  pub cross_dividend : (j i : ℕ) → unsigned_abs (scan.source *ℤ (pos 2 *ℤ edge_of (cross_edges scan along) i *ℤ a +ℤ slab_middle scan along j *ℤ b)) ≤ 2 ^ 62
+  pub slab_divisor : (j : ℕ) → 0 < unsigned_abs (depth scan.source a (slab_sum_of scan along j))
+  pub cross_dividend : (j i : ℕ) → unsigned_abs (scan.source *ℤ (pos 2 *ℤ edge_of (cross_edges scan along) i *ℤ a +ℤ slab_sum_of scan along j *ℤ b)) ≤ 2 ^ 62
   pub height_dividend : (l : ℕ) → unsigned_abs (pos 2 *ℤ scan.source *ℤ a *ℤ edge_of scan.z l) ≤ 2 ^ 62
   pub column_divisor : (k : ℕ) → 0 < unsigned_abs (slant scan.panel a b (edge_of scan.column k))
   pub column_dividend : (k : ℕ) → unsigned_abs (scan.source *ℤ pos 16384 *ℤ edge_of scan.column k) ≤ 2 ^ 62
-  pub row_divisor : (k : ℕ) → 0 < unsigned_abs (slant (pos 2 *ℤ scan.panel) a b (column_middle scan k))
+  pub row_divisor : (k : ℕ) → 0 < unsigned_abs (slant (pos 2 *ℤ scan.panel) a b (column_sum_of scan k))
   pub row_dividend : (m : ℕ) → unsigned_abs (pos 2 *ℤ scan.source *ℤ a *ℤ edge_of scan.row m) ≤ 2 ^ 62
 
 -- A view lands soundly, each edge rounded down, S rises where a is positive and falls where a is negative, and every weight is below 2^52.

@@ -61,14 +61,14 @@ distances_check source panel =
     (refused_where (int_lt panel source || int_lt (pos 33554432) panel) (PanelDistance panel source))
 
 -- 7 where D is at most twice the farthest edge of x and y, and then 8 for the first edge of the columns that lies as far from 0 as F, or farther.
-abbrev pub reach_check : ℤ → ℤ → List ℤ → List ℤ → List ℤ → Option Refusal
-reach_check source panel x y column =
+abbrev pub clearance_check : ℤ → ℤ → List ℤ → List ℤ → List ℤ → Option Refusal
+clearance_check source panel x y column =
     option_or (refused_where (nat_le (unsigned_abs source) (2 * widest x y)) (SourceTooNear source (pos (widest x y))))
     (option_map (λ i. ColumnBeyond i (edge_of column i) panel) (first_beyond (unsigned_abs panel) column))
 
 -- A draft checks 6 for D, 6 for F, 7, 8.
 abbrev pub draft_check : ℤ → ℤ → List ℤ → List ℤ → List ℤ → Option Refusal
-draft_check source panel x y column = option_or (distances_check source panel) (reach_check source panel x y column)
+draft_check source panel x y column = option_or (distances_check source panel) (clearance_check source panel x y column)
 
 -- Adding a view checks 9, a step outside 0 to 63, and then 21, a draft that has 1,024 views.
 abbrev pub view_check : ℕ → ℤ → Option Refusal
@@ -77,12 +77,12 @@ view_check views step =
     (refused_where (nat_le 1024 views) (DraftFull views))
 
 -- Twice any edge of x and y lies less than D from 0.
-abbrev pub Near : ℤ → List ℤ → List ℤ → Type 0
-Near source x y = 2 * widest x y < unsigned_abs source
+abbrev pub SourceClear : ℤ → List ℤ → List ℤ → Type 0
+SourceClear source x y = 2 * widest x y < unsigned_abs source
 
 -- Every edge of the columns lies less than F from 0.
-abbrev pub Reaches : ℤ → List ℤ → Type 0
-Reaches panel column = (i : ℕ) → i < length column → unsigned_abs (slice_index_or column i (pos 0)) < unsigned_abs panel
+abbrev pub ColumnsNearer : ℤ → List ℤ → Type 0
+ColumnsNearer panel column = (i : ℕ) → i < length column → unsigned_abs (slice_index_or column i (pos 0)) < unsigned_abs panel
 
 -- What every draft and every plan keeps.
 pub record Fitted (scan : Scan) : Type 0 where
@@ -95,8 +95,8 @@ pub record Fitted (scan : Scan) : Type 0 where
   pub z : Proper scan.z
   pub column : Proper scan.column
   pub row : Proper scan.row
-  pub near : Near scan.source scan.x scan.y
-  pub reaches : Reaches scan.panel scan.column
+  pub clear : SourceClear scan.source scan.x scan.y
+  pub nearer : ColumnsNearer scan.panel scan.column
   pub steps : (v : ℕ) → slice_index scan.steps v < 64
   pub views : length scan.steps ≤ 1024
 
@@ -129,12 +129,12 @@ abbrev pub cross_edges : Scan → SlabAxis → List ℤ
 cross_edges scan along = by_slabs along scan.y scan.x
 
 -- Q of slab j, which is twice its middle with the sign that its axis gives it.
-abbrev pub slab_middle : Scan → SlabAxis → ℕ → ℤ
-slab_middle scan along j = slab_sum along (low_of (slab_edges scan along) j) (high_of (slab_edges scan along) j)
+abbrev pub slab_sum_of : Scan → SlabAxis → ℕ → ℤ
+slab_sum_of scan along j = slab_sum along (low_of (slab_edges scan along) j) (high_of (slab_edges scan along) j)
 
 -- K of column k, the sum of its two edges: twice its middle.
-abbrev pub column_middle : Scan → ℕ → ℤ
-column_middle scan k = low_of scan.column k +ℤ high_of scan.column k
+abbrev pub column_sum_of : Scan → ℕ → ℤ
+column_sum_of scan k = low_of scan.column k +ℤ high_of scan.column k
 
 -- Where the edges of a scan land, by the slab axis and the a and b of a direction.
 abbrev pub landing_of : Scan → SlabAxis → ℤ → ℤ → Landing
@@ -146,10 +146,10 @@ landing_of scan along a b =
       heights = cells_of scan.z;
       columns = cells_of scan.column;
       rows = cells_of scan.row;
-      U = λ j i. cross_edge scan.source a b (slab_middle scan along j) (edge_of (cross_edges scan along) i);
-      W = λ j l. height_edge scan.source a (slab_middle scan along j) (edge_of scan.z l);
+      U = λ j i. cross_edge scan.source a b (slab_sum_of scan along j) (edge_of (cross_edges scan along) i);
+      W = λ j l. height_edge scan.source a (slab_sum_of scan along j) (edge_of scan.z l);
       S = λ k. column_edge scan.source scan.panel a b (edge_of scan.column k);
-      T = λ k m. row_edge scan.source scan.panel a b (column_middle scan k) (edge_of scan.row m);
+      T = λ k m. row_edge scan.source scan.panel a b (column_sum_of scan k) (edge_of scan.row m);
     }
 
 -- The step of a view.

@@ -1,14 +1,18 @@
 ghost use Rattle.std.specs.Prelude.{◌≡◌, List, ℤ};
 ghost use Rattle.scan.specs.Axes.{Proper, cells_of, edge_of};
 
-// The edges of the cells along one direction. A number past the last is answered as the last.
+/// How many cells an axis may have.
+pub const MOST_CELLS: usize = 512;
+
+/// The edges of the cells along one direction. A number past the last is answered as the last.
 pub trait Axis {
     ghost edges: { Self → List ℤ };
 
-    // The number of cells, which is one less than the number of edges.
+    /// The number of cells, which is one less than the number of edges.
     fn cells(&self) -> usize
         ensures { result ≡ cells_of (edges self.now) };
 
+    /// The edge of a number.
     fn edge(&self, i: usize) -> i32
         ensures { result ≡ edge_of (edges self.now) i };
 

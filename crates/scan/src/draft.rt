@@ -1,28 +1,49 @@
 // A scan to which views can still be added.
-ghost use Rattle.std.specs.Prelude.{◌≡◌, length, Ok, Err, unsigned_abs};
+ghost use Rattle.std.specs.Prelude.{◌≡◌, length, Ok, Err, IfOk, unsigned_abs};
 ghost use Rattle.scan.specs.Checks.{Outcome};
 ghost use Rattle.scan.specs.Plans.{draft_check, view_check, unviewed, with_view, Fitted};
 ghost use Rattle.scan.specs.Meanings.{draft_of, plan_of};
 
+use crate::accepted::Accepted;
 use crate::axis::Axis;
-use crate::draft_checks::{check_reach, check_view, distances_of};
+use crate::draft_checks::{accepted, check_view};
 use crate::failure::Failure;
 use crate::layout::Layout;
 use crate::listed::ListedAxis;
 use crate::plan::Plan;
-use std::alloc::Global;
+use std::alloc::{AllocError, Global};
 
-// How many views a draft may have.
+/// How many views a draft may have.
 pub const MOST_VIEWS: usize = 1024;
 
+/// A scan to which views can still be added. `seal` makes it a plan.
 #[derive(Drop)]
 pub struct Draft {
     pub(crate) layout: Layout,
 }
 
+impl<X: Axis, Y: Axis, C: Axis> Accepted<'_, X, Y, C> {
+    // The draft with no views. It keeps the edges that the axes answer.
+    fn draft<Z: Axis, R: Axis>(self, heap: Global, z: &Z, row: &R) -> Result<Draft, AllocError>
+        ensures { IfOk result (λ d. draft_of d ≡ unviewed self.entry.distances.source self.entry.distances.panel (X.Axis.edges self.entry.x.now) (Y.Axis.edges self.entry.y.now) (Z.Axis.edges z.now) (C.Axis.edges self.entry.column.now) (R.Axis.edges row.now)) }
+    {
+        Ok(Draft {
+            layout: Layout {
+                distances: self.distances,
+                x: ListedAxis::copy_of(heap, self.x)?,
+                y: ListedAxis::copy_of(heap, self.y)?,
+                z: ListedAxis::copy_of(heap, z)?,
+                column: ListedAxis::copy_of(heap, self.column)?,
+                row: ListedAxis::copy_of(heap, row)?,
+                views: Vec::new(heap),
+            },
+        })
+    }
+}
+
 impl Draft {
-    // A draft with no views: how far the source and the panel stand, and the axes of the volume and of the panel.
-    // Checks 6 for D, 6 for F, 7, 8. The axes are no struct of five, since each may be of a type of its own.
+    /// A draft with no views: how far the source and the panel stand, and the axes of the volume and of the panel.
+    /// Checks 6 for D, 6 for F, 7, 8. The axes are no struct of five, since each may be of a type of its own.
     pub fn new<X: Axis, Y: Axis, Z: Axis, C: Axis, R: Axis>(
         heap: Global,
         source: i32,
@@ -35,27 +56,12 @@ impl Draft {
     ) -> Result<Draft, Failure>
         ensures { Outcome (draft_check source panel (X.Axis.edges x.now) (Y.Axis.edges y.now) (C.Axis.edges column.now)) (λ d. draft_of d ≡ unviewed source panel (X.Axis.edges x.now) (Y.Axis.edges y.now) (Z.Axis.edges z.now) (C.Axis.edges column.now) (R.Axis.edges row.now)) result }
     {
-        let distances = distances_of(source, panel)?;
-        check_reach(distances, x, y, column)?;
-        let x = ListedAxis::copy_of(heap, x)?;
-        let y = ListedAxis::copy_of(heap, y)?;
-        let z = ListedAxis::copy_of(heap, z)?;
-        let column = ListedAxis::copy_of(heap, column)?;
-        let row = ListedAxis::copy_of(heap, row)?;
-        Ok(Draft {
-            layout: Layout {
-                distances,
-                x,
-                y,
-                z,
-                column,
-                row,
-                views: Vec::new(heap),
-            },
-        })
+        // A check that may refuse, and then a making that only memory can fail.
+        let accepted = accepted(source, panel, x, y, column)?;
+        Ok(accepted.draft(heap, z, row)?)
     }
 
-    // Adds a view from a step of the turn, and says its number. Checks 9, 21.
+    /// Adds a view from a step of the turn, and says its number. Checks 9, 21.
     pub fn add_view(&mut self, step: i32) -> Result<usize, Failure>
         ensures value { Outcome (view_check (length (draft_of self.old).steps) step) (λ n. n ≡ length (draft_of self.old).steps) result }
         ensures after { draft_of self.new ≡ elim result [ Ok n ↦ with_view (draft_of self.old) (unsigned_abs step) | Err e ↦ draft_of self.old ] }
@@ -66,14 +72,14 @@ impl Draft {
         Ok(views)
     }
 
-    // The number of views so far.
+    /// The number of views so far.
     pub fn views(&self) -> usize
         ensures { result ≡ length (draft_of self.now).steps }
     {
         self.layout.views()
     }
 
-    // The plan of the scan as it stands.
+    /// The plan of the scan as it stands.
     pub fn seal(self) -> Plan
         ensures holds { plan_of result ≡ draft_of self }
         ensures fitted { Fitted (plan_of result) }

@@ -1,8 +1,9 @@
 // The checks that a draft and its views pass.
 ghost use Rattle.std.specs.Prelude.{◌≡◌, unsigned_abs};
 ghost use Rattle.scan.specs.Checks.{Verdict};
-ghost use Rattle.scan.specs.Plans.{greatest, first_beyond, distances_check, reach_check, view_check};
+ghost use Rattle.scan.specs.Plans.{greatest, first_beyond, draft_check, distances_check, clearance_check, view_check};
 
+use crate::accepted::Accepted;
 use crate::axis::Axis;
 use crate::draft::MOST_VIEWS;
 use crate::refusal::Refusal;
@@ -12,7 +13,7 @@ use geometry::step::Step;
 // Refuses D, from the source to the rotation axis, out of its range (6), and then F, from the source to the panel (6).
 // No `TryFrom`: this crate may not write it, and in that of `Distances` it would need two refusals of its own, which are
 // these two again.
-pub(crate) fn distances_of(source: i32, panel: i32) -> Result<Distances, Refusal>
+fn distances_of(source: i32, panel: i32) -> Result<Distances, Refusal>
     ensures { Verdict (distances_check source panel) (λ d. (d.source ≡ source) × (d.panel ≡ panel)) result }
 {
     let source = i64::from(source);
@@ -26,6 +27,26 @@ pub(crate) fn distances_of(source: i32, panel: i32) -> Result<Distances, Refusal
     Ok(Distances { source, panel })
 }
 
+// The check of a draft, which allocates nothing: 6 for D, 6 for F, 7, 8.
+pub(crate) fn accepted<'a, X: Axis, Y: Axis, C: Axis>(
+    source: i32,
+    panel: i32,
+    x: &'a X,
+    y: &'a Y,
+    column: &'a C,
+) -> Result<Accepted<'a, X, Y, C>, Refusal>
+    ensures { Verdict (draft_check source panel (X.Axis.edges x.now) (Y.Axis.edges y.now) (C.Axis.edges column.now)) (λ a. (a.distances.source ≡ source) × (a.distances.panel ≡ panel) × (X.Axis.edges a.x.now ≡ X.Axis.edges x.now) × (Y.Axis.edges a.y.now ≡ Y.Axis.edges y.now) × (C.Axis.edges a.column.now ≡ C.Axis.edges column.now)) result }
+{
+    let distances = distances_of(source, panel)?;
+    check_clearance(distances, x, y, column)?;
+    Ok(Accepted {
+        distances,
+        x,
+        y,
+        column,
+    })
+}
+
 // How far the farthest edge of an axis lies from 0.
 fn farthest<A: Axis>(axis: &A) -> u32
     ensures { result ≡ greatest (A.edges axis.now) }
@@ -36,8 +57,8 @@ fn farthest<A: Axis>(axis: &A) -> u32
         .unwrap_or(0)
 }
 
-// Not the search of `first_outside`, which is over edges that are no axis yet, and leaves the limit out.
-// The first edge of an axis that lies as far from 0 as the limit, or farther.
+// The first edge of an axis that lies as far from 0 as the limit, or farther. Not the search of `first_outside`, which is
+// over edges that are no axis yet, and leaves the limit out.
 fn first_beyond<A: Axis>(axis: &A, limit: u64) -> Option<usize>
     ensures { result ≡ first_beyond limit (A.edges axis.now) }
 {
@@ -45,13 +66,13 @@ fn first_beyond<A: Axis>(axis: &A, limit: u64) -> Option<usize>
 }
 
 // Refuses a source too near the volume (7), and then a column edge as far from 0 as F, or farther (8).
-pub(crate) fn check_reach<X: Axis, Y: Axis, C: Axis>(
+fn check_clearance<X: Axis, Y: Axis, C: Axis>(
     distances: Distances,
     x: &X,
     y: &Y,
     column: &C,
 ) -> Result<(), Refusal>
-    ensures { Verdict (reach_check distances.source distances.panel (X.Axis.edges x.now) (Y.Axis.edges y.now) (C.Axis.edges column.now)) (λ _. Unit {0}) result }
+    ensures { Verdict (clearance_check distances.source distances.panel (X.Axis.edges x.now) (Y.Axis.edges y.now) (C.Axis.edges column.now)) (λ _. Unit {0}) result }
 {
     let widest = farthest(x).max(farthest(y));
     if distances.source.unsigned_abs() <= 2 * u64::from(widest) {
@@ -70,7 +91,7 @@ pub(crate) fn check_reach<X: Axis, Y: Axis, C: Axis>(
     Ok(())
 }
 
-// Refuses a step that there is not (9), and then a view more than a draft may have (21).
+// Refuses a step outside 0 to 63 (9), and then a view more than a draft may have (21).
 pub(crate) fn check_view(views: usize, step: i32) -> Result<Step, Refusal>
     ensures { Verdict (view_check views step) (λ s. s.number ≡ unsigned_abs step) result }
 {

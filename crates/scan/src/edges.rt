@@ -3,6 +3,7 @@ ghost use Rattle.std.specs.Prelude.{◌≡◌, ℕ, ◌+◌, ◌-◌, ◌^◌, �
 ghost use Rattle.scan.specs.Checks.{Verdict, count_check, first_outside, first_not_rising, edges_check};
 
 use crate::refusal::Refusal;
+use geometry::edge::FARTHEST_EDGE;
 
 // Edges by number, of which nothing is known yet.
 pub(crate) trait Edges {
@@ -55,7 +56,7 @@ fn first_not_rising<E: Edges>(edges: &E) -> Option<usize>
 pub(crate) fn check_edges<E: Edges>(edges: &E) -> Result<(), Refusal>
     ensures { Verdict (edges_check (E.count edges.now) (E.at edges.now)) (λ _. Unit {0}) result }
 {
-    if let Some(edge) = first_outside(edges, 4_194_304) {
+    if let Some(edge) = first_outside(edges, FARTHEST_EDGE) {
         return Err(Refusal::OutOfRange {
             edge,
             at: edges.get(edge),

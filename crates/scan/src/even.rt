@@ -3,7 +3,7 @@ ghost use Rattle.std.specs.Prelude.{◌≡◌, ◌+◌, ◌≤◌};
 ghost use Rattle.scan.specs.Axes.{Proper, even_edge, even_edges};
 ghost use Rattle.scan.specs.Checks.{Verdict, even_check};
 
-use crate::axis::Axis;
+use crate::axis::{Axis, MOST_CELLS};
 use crate::edges::{Edges, check_count, check_edges};
 use crate::refusal::Refusal;
 
@@ -31,6 +31,7 @@ impl Edges for Spaced {
     }
 }
 
+/// An axis whose cells are all as wide.
 #[derive(Clone, Copy)]
 pub struct EvenAxis {
     spaced: Spaced,
@@ -38,11 +39,11 @@ pub struct EvenAxis {
 }
 
 impl EvenAxis {
-    // The axis of cells from `first` up, each as wide as `pitch`. Checks 2, 5, 4.
+    /// The axis of cells from `first` up, each as wide as `pitch`. Checks 2, 5, 4.
     pub fn new(first: i32, pitch: i32, cells: usize) -> Result<EvenAxis, Refusal>
-        ensures { Verdict (even_check first pitch cells) (λ a. even_edges a.spaced.first a.spaced.pitch a.spaced.cells ≡ even_edges first pitch cells) result }
+        ensures { Verdict (even_check first pitch cells) (λ a. ⟦<EvenAxis as Axis>⟧.edges a ≡ even_edges first pitch cells) result }
     {
-        check_count(cells, 1, 512)?;
+        check_count(cells, 1, MOST_CELLS)?;
         let spaced = Spaced {
             first,
             pitch,

@@ -8,9 +8,12 @@ use std::alloc::{AllocError, AllocFailed};
 use std::error::Error;
 use std::fmt;
 
+/// Why something was not made.
 #[derive(Clone, Copy, PartialEq, Eq, Debug)]
 pub enum Failure {
+    /// A check failed.
     Refused(Refusal),
+    /// No check failed, and there was no memory.
     Memory,
 }
 
@@ -27,7 +30,7 @@ impl From<AllocError> for Failure {
     ghost from_gives = { λ _ r. r ≡ Memory };
 
     fn from(_e: AllocError) -> Failure {
-        Failure::Memory
+        Self::Memory
     }
 }
 
@@ -35,7 +38,7 @@ impl<T: Drop> From<AllocFailed<T>> for Failure {
     ghost from_gives = { λ _ r. r ≡ Memory };
 
     fn from(_e: AllocFailed<T>) -> Failure {
-        Failure::Memory
+        Failure::from(AllocError)
     }
 }
 

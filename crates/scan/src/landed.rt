@@ -3,9 +3,9 @@ ghost use Rattle.scan.specs.Landing.{Landing, Sound};
 
 use geometry::direction::SlabAxis;
 
-// One view of a scan, by where its edges land on the common plane. A number past the last is answered as the last.
-// Five numbers of cells are five methods: callers read better by name than by a key, and slabs and crosses are no axes of
-// a scan.
+/// One view of a scan, by where its edges land on the common plane. A number past the last is answered as the last.
+/// Five numbers of cells are five methods: callers read better by name than by a key, and slabs and crosses are no axes of
+/// a scan.
 pub trait Landed {
     ghost landing: { Self → Landing };
 
@@ -15,7 +15,7 @@ pub trait Landed {
     fn slabs(&self) -> usize
         ensures { result ≡ (landing self.now).slabs };
 
-    // The number of cells of the cross axis.
+    /// The number of cells of the cross axis.
     fn crosses(&self) -> usize
         ensures { result ≡ (landing self.now).crosses };
 
@@ -28,19 +28,19 @@ pub trait Landed {
     fn rows(&self) -> usize
         ensures { result ≡ (landing self.now).rows };
 
-    // U: where edge i of the cross axis lands in a slab.
+    /// U: where edge i of the cross axis lands in a slab.
     fn cross_edge(&self, slab: usize, i: usize) -> i64
         ensures { result ≡ (landing self.now).U slab i };
 
-    // W: where edge l of the z axis lands in a slab.
+    /// W: where edge l of the z axis lands in a slab.
     fn height_edge(&self, slab: usize, l: usize) -> i64
         ensures { result ≡ (landing self.now).W slab l };
 
-    // S: where edge k of the detector columns lands.
+    /// S: where edge k of the panel columns lands.
     fn column_edge(&self, k: usize) -> i64
         ensures { result ≡ (landing self.now).S k };
 
-    // T: where edge m of the detector rows lands in a column.
+    /// T: where edge m of the panel rows lands in a column.
     fn row_edge(&self, column: usize, m: usize) -> i64
         ensures { result ≡ (landing self.now).T column m };
 

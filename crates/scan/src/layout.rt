@@ -1,6 +1,6 @@
 // What a draft and a plan hold of a scan.
 ghost use Rattle.std.specs.Prelude.{◌≤◌, vec_len};
-ghost use Rattle.scan.specs.Plans.{Near, Reaches};
+ghost use Rattle.scan.specs.Plans.{SourceClear, ColumnsNearer};
 
 use crate::listed::ListedAxis;
 use geometry::distances::Distances;
@@ -15,7 +15,7 @@ pub(crate) struct Layout {
     pub(crate) column: ListedAxis,
     pub(crate) row: ListedAxis,
     pub(crate) views: Vec<Step>,
-    ghost near: { Near distances.source x.edges.items y.edges.items },
-    ghost reaches: { Reaches distances.panel column.edges.items },
+    ghost clear: { SourceClear distances.source x.edges.items y.edges.items },
+    ghost nearer: { ColumnsNearer distances.panel column.edges.items },
     ghost few: { vec_len views ≤ 1024 },
 }

@@ -1,6 +1,7 @@
 //! Axes, drafts and sealed plans, and where the edges of a plan's views land.
 #![tactic(auto)]
 
+mod accepted;
 pub mod axis;
 pub mod draft;
 mod draft_checks;

@@ -4,7 +4,7 @@ ghost use Rattle.scan.specs.Axes.{Proper, edge_of};
 ghost use Rattle.scan.specs.Checks.{Outcome, listed_check};
 ghost use Rattle.scan.specs.Plans.{low_of, high_of};
 
-use crate::axis::Axis;
+use crate::axis::{Axis, MOST_CELLS};
 use crate::edges::{Edges, check_count, check_edges};
 use crate::failure::Failure;
 use geometry::cell::Cell;
@@ -32,6 +32,7 @@ fn edges_of<A: Axis>(heap: Global, axis: &A) -> Result<Vec<i32>, AllocError>
     (0..axis.cells() + 1).map(|i| axis.edge(i)).collect(heap)
 }
 
+/// An axis whose edges are listed.
 #[derive(Drop)]
 pub struct ListedAxis {
     pub(crate) edges: Vec<i32>,
@@ -39,11 +40,11 @@ pub struct ListedAxis {
 }
 
 impl ListedAxis {
-    // The axis of these edges. Checks 2, 5, 4.
+    /// The axis of these edges. Checks 2, 5, 4.
     pub fn new(heap: Global, edges: &[i32]) -> Result<ListedAxis, Failure>
-        ensures { Outcome (listed_check edges.now) (λ a. a.edges.items ≡ edges.now) result }
+        ensures { Outcome (listed_check edges.now) (λ a. ⟦<ListedAxis as Axis>⟧.edges a ≡ edges.now) result }
     {
-        check_count(edges.len(), 2, 513)?;
+        check_count(edges.len(), 2, MOST_CELLS + 1)?;
         check_edges(&edges)?;
         Ok(ListedAxis {
             edges: edges.to_vec(heap)?,

@@ -8,12 +8,14 @@ use crate::axis::Axis;
 use crate::layout::Layout;
 use crate::scan_axis::ScanAxis;
 
+/// A sealed scan: it takes no more views, and can be swept.
 #[derive(Drop)]
 pub struct Plan {
     pub(crate) layout: Layout,
 }
 
 impl Plan {
+    /// The number of views.
     pub fn views(&self) -> usize
         ensures value { result ≡ length (plan_of self.now).steps }
         ensures most { result ≤ 1024 }
@@ -21,7 +23,7 @@ impl Plan {
         self.layout.views()
     }
 
-    // The number of cells of an axis.
+    /// The number of cells of an axis.
     pub fn cells_along(&self, axis: ScanAxis) -> usize
         ensures value { result ≡ cells_of (edges_along (plan_of self.now) axis) }
         ensures most { result ≤ 512 }
@@ -29,7 +31,7 @@ impl Plan {
         self.layout.axis(axis).cells()
     }
 
-    // The number of voxels of the volume.
+    /// The number of voxels of the volume.
     pub fn voxels(&self) -> usize
         ensures value { result ≡ voxels_of (plan_of self.now) }
         ensures most { result ≤ 134217728 }
@@ -39,7 +41,7 @@ impl Plan {
             * self.cells_along(ScanAxis::X)
     }
 
-    // The number of panel cells in one view.
+    /// The number of panel cells in one view.
     pub fn cells(&self) -> usize
         ensures value { result ≡ panel_of (plan_of self.now) }
         ensures most { result ≤ 262144 }

@@ -7,66 +7,67 @@ use geometry::no_step::NoStep;
 use std::error::Error;
 use std::fmt;
 
-// Which of the caller's stores.
+/// Which of the caller's stores.
 #[derive(Clone, Copy, PartialEq, Eq, Debug)]
 pub enum Store {
     Volume,
     Working,
 }
 
+/// The condition under which a call is refused.
 #[derive(Clone, Copy, PartialEq, Eq, Debug)]
 pub enum Refusal {
-    // A count lies outside its limits.
+    /// A count lies outside its limits.
     Count {
         found: usize,
         least: usize,
         most: usize,
     },
-    // An edge is not above the one before it.
+    /// An edge is not above the one before it.
     NotRising {
         edge: usize,
         before: i64,
         at: i64,
     },
-    // An edge lies outside −4,194,304 .. 4,194,304.
+    /// An edge lies outside −4,194,304 .. 4,194,304.
     OutOfRange {
         edge: usize,
         at: i64,
     },
-    // The source stands outside 1 .. 2^24 from the rotation axis.
+    /// The source stands outside 1 .. 2^24 from the rotation axis.
     SourceDistance {
         at: i64,
     },
-    // The panel stands nearer the source than the rotation axis does, or more than 2^25 from the source.
+    /// The panel stands nearer the source than the rotation axis does, or more than 2^25 from the source.
     PanelDistance {
         at: i64,
         source: i64,
     },
-    // The source stands no farther than twice the widest edge of x and y.
+    /// The source stands no farther than twice the widest edge of x and y.
     SourceTooNear {
         source: i64,
         widest: i64,
     },
-    // An edge of the columns lies as far out as the panel stands from the source.
+    /// An edge of the columns lies as far out as the panel stands from the source.
     ColumnBeyond {
         edge: usize,
         at: i64,
         panel: i64,
     },
-    // A step lies outside 0 .. 63.
+    /// A step lies outside 0 .. 63.
     StepOutOfRange {
         step: i64,
     },
-    // The draft has all the views that it may have.
+    /// The draft has all the views that it may have.
     DraftFull {
         views: usize,
     },
-    // There is no view of this number.
+    /// There is no view of this number.
     NoView {
         view: usize,
         views: usize,
     },
-    // A store has another length than the plan asks for.
+    /// A store has another length than the plan asks for.
     StoreLength {
         store: Store,
         found: usize,
@@ -75,7 +76,7 @@ pub enum Refusal {
 }
 
 impl Refusal {
-    // The number of the condition: a number, since that is what users look up.
+    /// The number of the condition: a number, since that is what users look up.
     pub fn number(&self) -> u8
         ensures { result ≡ number self.now }
     {
@@ -93,7 +94,7 @@ impl Refusal {
         }
     }
 
-    // Which of several of its kind the condition is about: the number of an edge, or of a distance.
+    /// Which of several of its kind the condition is about: the number of an edge, or of a distance.
     pub fn place(&self) -> usize
         ensures { result ≡ place self.now }
     {
@@ -102,7 +103,13 @@ impl Refusal {
             | Refusal::OutOfRange { edge, .. }
             | Refusal::ColumnBeyond { edge, .. } => *edge,
             Refusal::PanelDistance { .. } => 1,
-            _ => 0,
+            Refusal::Count { .. }
+            | Refusal::SourceDistance { .. }
+            | Refusal::SourceTooNear { .. }
+            | Refusal::StepOutOfRange { .. }
+            | Refusal::DraftFull { .. }
+            | Refusal::NoView { .. }
+            | Refusal::StoreLength { .. } => 0,
         }
     }
 }

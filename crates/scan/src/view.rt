@@ -16,7 +16,7 @@ use geometry::direction::{Direction, SlabAxis};
 use geometry::landed::Pose;
 use geometry::turn::direction;
 
-// A plan, and the direction of one of its views.
+/// A plan, and the direction of one of its views.
 #[derive(Clone, Copy)]
 pub struct View<'a> {
     plan: &'a Plan,
@@ -24,9 +24,9 @@ pub struct View<'a> {
 }
 
 impl Plan {
-    // The view of a number.
+    /// The view of a number.
     pub fn view(&self, view: usize) -> Option<View<'_>>
-        ensures { elim result [ Some w ↦ (view < length (plan_of self.now).steps) × (landing_of (plan_of w.plan.now) w.direction.slabs w.direction.a w.direction.b ≡ landing (plan_of self.now) view) × Lands (plan_of self.now) view | None ↦ length (plan_of self.now).steps ≤ view ] }
+        ensures { elim result [ Some w ↦ (view < length (plan_of self.now).steps) × (⟦<View<'static> as Landed>⟧.landing w ≡ landing (plan_of self.now) view) × Lands (plan_of self.now) view | None ↦ length (plan_of self.now).steps ≤ view ] }
     {
         let step = *self.layout.views.get(view)?;
         Some(View {

@@ -9,7 +9,7 @@ use Rattle.values.specs.Sums.{sum}
 use Rattle.values.proofs.Sums.{sum_same}
 use Rattle.sweeps.specs.Stores.{built, at}
 use Rattle.sweeps.specs.Strips.{Gained}
-use Rattle.sweeps.specs.Systems.{System, places, mine, forward, back}
+use Rattle.sweeps.specs.Systems.{System, places, in_view, forward, back}
 use Rattle.sweeps.proofs.Blocks.{row_end}
 
 -- a store of n places that holds f i at each
@@ -75,14 +75,14 @@ module _ {V : Type 0} {o : Ops V} (laws : Laws o) (s : System) (v : ℕ) (f : V)
   pub view_within : start + s.cells ≤ length working
   view_within = let e = row_end v s.views s.cells known in omega arith
 
-  mine_before : (i : ℕ) → i < start → mine s v i ≡ false
-  mine_before i l = and_left _ _ (lt-leb start i l)
+  in_view_before : (i : ℕ) → i < start → in_view s v i ≡ false
+  in_view_before i l = and_left _ _ (lt-leb start i l)
 
-  mine_after : (i : ℕ) → start + s.cells ≤ i → mine s v i ≡ false
-  mine_after i l = and_right _ _ (le-ltb i (start + s.cells) l)
+  in_view_after : (i : ℕ) → start + s.cells ≤ i → in_view s v i ≡ false
+  in_view_after i l = and_right _ _ (le-ltb i (start + s.cells) l)
 
-  mine_at : (i : ℕ) → start ≤ i → i < start + s.cells → mine s v i ≡ true
-  mine_at i a b = and_from _ _ (le-leb start i a) (lt-ltb i (start + s.cells) b)
+  in_view_at : (i : ℕ) → start ≤ i → i < start + s.cells → in_view s v i ≡ true
+  in_view_at i a b = and_from _ _ (le-leb start i a) (lt-ltb i (start + s.cells) b)
 
   abbrev gain : ℕ → V
   gain c = o.times f (sum o s.voxels (λ x. o.multiple (at o volume x) (s.weight v x c)))
@@ -96,7 +96,7 @@ module _ {V : Type 0} {o : Ops V} (laws : Laws o) (s : System) (v : ℕ) (f : V)
   forward_is ys len gained =
       is_built o (places s) _ (put_mid start ((start + s.cells) - start) working ys) (length-put o start s.cells working view_within ys len ∙ cells)
       (λ i l. ⊎_elim
-      (λ lt. put_before o start s.cells working view_within ys len i lt ∙ sym (cond-false _ _ _ (mine_before i lt)))
+      (λ lt. put_before o start s.cells working view_within ys len i lt ∙ sym (cond-false _ _ _ (in_view_before i lt)))
       (λ ge. ⊎_elim
       (λ lt.
       let c : start + (i - start) ≡ i = omega arith in
@@ -107,8 +107,8 @@ module _ {V : Type 0} {o : Ops V} (laws : Laws o) (s : System) (v : ℕ) (f : V)
       ∙ gained (i - start) (omega arith)
       ∙ ap₂ (λ a n. o.plus a (o.times f (sum o n (λ x. o.multiple (at o volume x) (s.weight v x (i - start))))))
       (at_part o start s.cells working view_within (i - start) below ∙ ap (at o working) c) voxels
-      ∙ sym (cond-true _ _ _ (mine_at i ge lt)))
-      (λ ge'. put_after o start s.cells working view_within ys len i ge' ∙ sym (cond-false _ _ _ (mine_after i ge')))
+      ∙ sym (cond-true _ _ _ (in_view_at i ge lt)))
+      (λ ge'. put_after o start s.cells working view_within ys len i ge' ∙ sym (cond-false _ _ _ (in_view_after i ge')))
       (cases_lt i (start + s.cells)))
       (cases_lt i start))
 

@@ -16,14 +16,14 @@ abbrev pub places : System → ℕ
 places s = s.views * s.cells
 
 -- Whether a place of the working store is a cell of view v.
-abbrev pub mine : System → ℕ → ℕ → Bool
-mine s v i = nat_le (v * s.cells) i && nat_lt i (v * s.cells + s.cells)
+abbrev pub in_view : System → ℕ → ℕ → Bool
+in_view s v i = nat_le (v * s.cells) i && nat_lt i (v * s.cells + s.cells)
 
 -- Forward: each cell of the view gains f times the sum over all voxels of the multiple of the value by the weight.
 unfoldable pub forward : {V : Type 0} → Ops V → System → ℕ → V → List V → List V → List V
 forward o s v f volume working =
     built (places s) (λ i.
-    if mine s v i
+    if in_view s v i
     then o.plus (at o working i) (o.times f (sum o s.voxels (λ x. o.multiple (at o volume x) (s.weight v x (i - v * s.cells)))))
     else at o working i)
 

@@ -7,11 +7,12 @@ use crate::pass::{Column, Pass, RunStarts, Slab};
 use crate::strip::Line;
 use geometry::direction::SlabAxis;
 use geometry::stretch::Stretch;
+use scan::axis::MOST_CELLS;
 use scan::landed::Landed;
 use values::value::Value;
 
 // The most edges that an axis has.
-const MOST_EDGES: usize = 513;
+pub(crate) const MOST_EDGES: usize = MOST_CELLS + 1;
 
 // Some columns of a view side by side, from `first` on: their landed edges, and those of their rows, `width` for each.
 #[derive(Drop)]

@@ -1,11 +1,11 @@
 ghost use Rattle.std.specs.Prelude.{◌≡◌, ◌==◌, not, Some, Ok, Err};
 ghost use Rattle.scan.specs.Checks.{Verdict, refused_where};
 ghost use Rattle.scan.specs.Meanings.{plan_of};
-ghost use Rattle.scan.specs.Plans.{landing_of};
 ghost use Rattle.scan.specs.declared.refusal.Refusal.TheVariants.{StoreLength};
 ghost use Rattle.sweeps.specs.Calls.{system_of, call_check};
 ghost use Rattle.sweeps.specs.Passes.{Answered};
 
+use scan::landed::Landed;
 use scan::plan::Plan;
 use scan::refusal::{Refusal, Store};
 use scan::view::View;
@@ -40,7 +40,7 @@ pub(crate) fn checked(
     volume: usize,
     working: usize,
 ) -> Result<Called<'_>, Refusal>
-    ensures { elim result [ Ok w ↦ Answered (plan_of plan.now) view volume working w.start w.cells (landing_of (plan_of w.landed.plan.now) w.landed.direction.slabs w.landed.direction.a w.landed.direction.b) | Err e ↦ call_check (system_of (plan_of plan.now)) view volume working ≡ Some e ] }
+    ensures { elim result [ Ok w ↦ Answered (plan_of plan.now) view volume working w.start w.cells (⟦<View<'static> as Landed>⟧.landing w.landed) | Err e ↦ call_check (system_of (plan_of plan.now)) view volume working ≡ Some e ] }
 {
     let views = plan.views();
     let landed = plan.view(view).ok_or(Refusal::NoView { view, views })?;

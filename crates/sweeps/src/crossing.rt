@@ -8,7 +8,7 @@ use crate::strip::Strip;
 use scan::landed::Landed;
 use values::value::Value;
 
-// Where a slab and a detector column meet in a pass, with the voxels of the slab over the column's stretch.
+// Where a slab and a panel column meet in a pass, with the voxels of the slab over the column's stretch.
 #[derive(Drop)]
 pub(crate) struct Crossing<'a, V, L: Landed> {
     pub(crate) pass: &'a Pass<'a, V, L>,

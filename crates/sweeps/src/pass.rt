@@ -38,7 +38,7 @@ pub(crate) struct RunStarts {
     pub(crate) rows: usize,
 }
 
-// One detector column: its cells, and its stretch of the common plane.
+// One panel column: its cells, and its stretch of the common plane.
 #[derive(Clone, Copy)]
 pub(crate) struct Column<'a> {
     pub(crate) number: usize,

@@ -2,7 +2,7 @@ ghost use Rattle.std.specs.Prelude.{◌+◌, ◌≤◌, length};
 ghost use Rattle.scan.specs.Landing.{weight};
 ghost use Rattle.sweeps.specs.Passes.{Sized, Swept, block_weight};
 
-use crate::block::Block;
+use crate::block::{Block, MOST_EDGES};
 use crate::pass::Pass;
 use crate::table::filled;
 use scan::landed::Landed;
@@ -12,7 +12,7 @@ use values::value::Value;
 const BLOCK: usize = 16;
 
 // The most row edges of a block.
-const MOST_ROW_EDGES: usize = 16 * 513;
+const MOST_ROW_EDGES: usize = BLOCK * MOST_EDGES;
 
 // The whole view: each target place gains the factor times the sum over all source places of the multiple by the weight.
 pub(crate) fn sweep<V: Value, L: Landed>(pass: &Pass<'_, V, L>, to: &mut [V])

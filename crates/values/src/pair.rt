@@ -5,7 +5,7 @@ ghost use Rattle.values.specs.PairLaws.{pair_laws};
 use crate::count::Count;
 use crate::value::Value;
 
-// Two Counts, for images of two materials.
+/// Two Counts, for images of two materials.
 #[derive(Clone, Copy, PartialEq, Eq, Debug)]
 pub struct Pair {
     pub first: Count,

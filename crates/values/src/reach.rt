@@ -4,7 +4,7 @@ ghost use Rattle.values.specs.ReachLaws.{reach_laws};
 
 use crate::value::Value;
 
-// Whether something is reached: yes or no.
+/// Whether something is reached: yes or no.
 #[derive(Clone, Copy, PartialEq, Eq, Debug)]
 pub struct Reach {
     pub yes: bool,

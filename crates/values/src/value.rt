@@ -1,29 +1,26 @@
 ghost use Rattle.std.specs.Prelude.{◌≡◌};
 ghost use Rattle.values.specs.Laws.{Ops, Laws};
 
-// A kind of value: it can be added, multiplied, and taken a number of times.
+/// A kind of value: it can be added, multiplied, and taken a number of times.
 pub trait Value: Copy {
-    // The kind's zero.
+    /// The kind's zero, from which sums start.
     const ZERO: Self;
 
+    // The constant, by a name that clauses can use.
     ghost ZERO: { Self };
 
     // What the four operations mean.
     ghost ops: { Ops Self };
 
-    // The constant `ZERO`, as a call.
-    fn neutral() -> Self
-        ensures { result ≡ ops.zero }
-    {
-        Self::ZERO
-    }
-
+    /// The sum.
     fn plus(self, other: Self) -> Self
         ensures { result ≡ ops.plus self other };
 
+    /// The product.
     fn times(self, other: Self) -> Self
         ensures { result ≡ ops.times self other };
 
+    /// The multiple by a whole number: so many times the value, added up.
     fn multiple(self, n: u64) -> Self
         ensures { result ≡ ops.multiple self n };
 
