@@ -2,7 +2,7 @@
 use Rattle.std.proofs.Common.{◌≡◌, ℕ, ◌+◌, ◌-◌, ◌*◌, ◌<◌, ◌≤◌, List, length, slice_index_or, take, drop, ℤ, pos, sym, ap, ◌∙◌, ap₂, mul-le-mul_right, add-mul, one-mul, arith}
 use lib.Arith.{digits_div, digits_mod}
 use Rattle.std.specs.Int.{int_min, int_max}
-use Rattle.std.proofs.lemmas.List.{get_or-take, get_or-drop, length-take-le, length-drop}
+use Rattle.std.proofs.lemmas.List.Edits.{length-between, get_or-between}
 use Rattle.scan.specs.Landing.{Landing}
 use Rattle.sweeps.specs.Tables.{Tabled}
 use Rattle.sweeps.specs.Passes.{slab_start, slab_stride, rise, SlabOf, ColumnOf, BlockOf}
@@ -37,14 +37,13 @@ module _ (L : Landing) (first count stride width : ℕ) (columns rows : List ℤ
   wide = omega arith
 
   part_length : length part ≡ width
-  part_length = let e = rows_end in ap (λ n. length (take n (drop (d * width) rows))) wide ∙ length-take-le width (drop (d * width) rows) (omega (arith, length-drop (d * width) rows))
+  part_length = length-between rows (d * width) (d * width + width) rows_end ∙ wide
 
   part_edge : (m : ℕ) → m < width → slice_index_or part m (pos 0) ≡ L.T (first + d) m
   part_edge m h =
       let e = wide in
       let inside : d * width + m < count * width = let r = row_end d count width below in omega arith in
-      get_or-take ((d * width + width) - d * width) (drop (d * width) rows) m (pos 0) (omega arith)
-      ∙ get_or-drop (d * width) rows m (pos 0)
+      get_or-between rows (d * width) (d * width + width) m (pos 0) (omega arith)
       ∙ bo.rows_are.1 (d * width + m) inside
       ∙ ap₂ (λ k n. L.T (first + k) n) (digits_div d h) (digits_mod d h)
 

@@ -2,7 +2,7 @@
 use Rattle.std.proofs.Common.{◌≡◌, ℕ, ◌+◌, ◌*◌, ◌<◌, List, length, sym, ap, ◌∙◌, arith}
 use Rattle.values.specs.Laws.{Ops, Laws}
 use Rattle.values.specs.Sums.{sum}
-use Rattle.values.proofs.Sums.{sum_same, sum_none, sum_plus, multiple_add, multiple_multiple, multiple_sum, times_multiple}
+use Rattle.values.proofs.Sums.{sum_same, sum_none, sum_plus, multiple_add, multiple_multiple, multiple_sum, times_multiple, multiple_none, plus_none}
 use Rattle.sweeps.specs.Stores.{at}
 use Rattle.sweeps.specs.Strips.{Gained}
 
@@ -18,9 +18,8 @@ module _ {V : Type 0} {o : Ops V} (laws : Laws o) (f : V) (from : List V) where
   -- no weight at all
   pub gained_none : (M : ℕ → ℕ → ℕ) (old : List V) → ((q p : ℕ) → q < length from → p < length old → M q p ≡ 0) → Gained o f from M old old
   gained_none M old h p l =
-      sym (ap (λ u. o.plus (at o old p) (o.times f u)) (sum_none laws (length from) _ (λ q k. ap (o.multiple (at o from q)) (h q p k l) ∙ laws.multiple_zero (at o from q)))
-      ∙ ap (o.plus (at o old p)) (laws.times_zero f)
-      ∙ laws.plus_zero (at o old p))
+      sym (plus_none laws (at o old p) _
+      (ap (o.times f) (sum_none laws (length from) _ (λ q k. multiple_none laws (at o from q) _ (h q p k l))) ∙ laws.times_zero f))
 
   -- one gain after another
   pub gained_more : (M N : ℕ → ℕ → ℕ) (old mid new : List V) → length mid ≡ length old → Gained o f from M old mid → Gained o f from N mid new → Gained o f from (λ q p. M q p + N q p) old new

@@ -4,7 +4,7 @@ use Rattle.std.proofs.lemmas.List.{get_or-set_same, get_or-set_other}
 use Rattle.std.proofs.lemmas.Bool.{eq-eqb, ne_eqb, cond-true, cond-false, cases_eq}
 use Rattle.values.specs.Laws.{Ops, Laws}
 use Rattle.values.specs.Sums.{sum}
-use Rattle.values.proofs.Sums.{sum_more, sum_same, sum_none, sum_plus, sum_past, sum_only, multiple_add}
+use Rattle.values.proofs.Sums.{sum_more, sum_same, sum_none, sum_plus, sum_past, sum_only, multiple_add, multiple_none, plus_none}
 use Rattle.sweeps.specs.Stores.{at}
 use Rattle.sweeps.specs.Strips.{laid}
 use Rattle.sweeps.proofs.Naturals.{naturals_laws}
@@ -50,14 +50,14 @@ module _ {V : Type 0} {o : Ops V} (laws : Laws o) (start stride : ℕ) (w : ℕ 
   gathered n = sum o (length xs) (λ q. o.multiple (at o xs q) (laid start stride w n q))
 
   pub gather_none : (n : ℕ) → ((i : ℕ) → i < n → w i ≡ 0) → gathered n ≡ o.zero
-  gather_none n h = sum_none laws (length xs) _ (λ q l. ap (o.multiple (at o xs q)) (laid_zero start stride w n q h) ∙ laws.multiple_zero (at o xs q))
+  gather_none n h = sum_none laws (length xs) _ (λ q l. multiple_none laws (at o xs q) _ (laid_zero start stride w n q h))
 
   pub gather_more : (n : ℕ) (all x : V) → start + n * stride < length xs → all ≡ gathered n → x ≡ o.multiple (at o xs (start + n * stride)) (w n) → o.plus all x ≡ gathered (n + 1)
   gather_more n all x lt e f =
       let k = start + n * stride in
       let term : ℕ → V = λ q. o.multiple (at o xs q) (here start stride w n q) in
       let alone : sum o (length xs) term ≡ o.multiple (at o xs k) (w n) =
-      sum_only laws (length xs) k term lt (λ q l ne. ap (o.multiple (at o xs q)) (here_miss start stride w n q ne) ∙ laws.multiple_zero (at o xs q))
+      sum_only laws (length xs) k term lt (λ q l ne. multiple_none laws (at o xs q) _ (here_miss start stride w n q ne))
       ∙ ap (o.multiple (at o xs k)) (here_hit start stride w n k refl) in
       ap₂ o.plus e (f ∙ sym alone)
       ∙ sym (sum_plus laws (length xs) _ term)
@@ -73,7 +73,7 @@ module _ {V : Type 0} {o : Ops V} (laws : Laws o) (start stride : ℕ) (w : ℕ 
   Scattered s n ys = (p : ℕ) → p < length xs → at o ys p ≡ o.plus (at o xs p) (o.multiple s (laid start stride w n p))
 
   pub scatter_none : (s : V) (n : ℕ) → ((i : ℕ) → i < n → w i ≡ 0) → Scattered s n xs
-  scatter_none s n h p l = sym (ap (λ k. o.plus (at o xs p) (o.multiple s k)) (laid_zero start stride w n p h) ∙ ap (o.plus (at o xs p)) (laws.multiple_zero s) ∙ laws.plus_zero (at o xs p))
+  scatter_none s n h p l = sym (plus_none laws (at o xs p) _ (multiple_none laws s _ (laid_zero start stride w n p h)))
 
   scatter_join : (s : V) (n p : ℕ) (y z : V) → y ≡ o.plus (at o xs p) (o.multiple s (laid start stride w n p)) → z ≡ o.plus y (o.multiple s (here start stride w n p)) → z ≡ o.plus (at o xs p) (o.multiple s (laid start stride w (n + 1) p))
   scatter_join s n p y z e f =
@@ -90,7 +90,7 @@ module _ {V : Type 0} {o : Ops V} (laws : Laws o) (start stride : ℕ) (w : ℕ 
       (λ same. ap (λ j. at o (set ys k y) j) same ∙ get_or-set_same ys k y o.zero lt ∙ e
       ∙ ap₂ (λ j m. o.plus (at o ys j) (o.multiple s m)) (sym same) (sym (here_hit start stride w n p same)))
       (λ other. get_or-set_other ys k p y o.zero other
-      ∙ sym (ap (λ m. o.plus (at o ys p) (o.multiple s m)) (here_miss start stride w n p other) ∙ ap (o.plus (at o ys p)) (laws.multiple_zero s) ∙ laws.plus_zero (at o ys p)))
+      ∙ sym (plus_none laws (at o ys p) _ (multiple_none laws s _ (here_miss start stride w n p other))))
       (cases_eq p k))
 
   pub scatter_all : (s : V) (m n : ℕ) (ys : List V) → n ≤ m → ((i : ℕ) → n ≤ i → i < m → w i ≡ 0) → Scattered s n ys → Scattered s m ys

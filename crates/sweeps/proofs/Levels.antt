@@ -1,5 +1,5 @@
 -- Gains summed over the turns of a loop, whichever way the sweep goes.
-use Rattle.std.proofs.Common.{◌≡◌, ℕ, ◌+◌, ◌<◌, List, length, sym, refl, ◌∙◌, arith}
+use Rattle.std.proofs.Common.{◌≡◌, ℕ, ◌+◌, ◌<◌, List, length, sym, refl, ap, ◌∙◌, arith}
 use Rattle.values.specs.Laws.{Ops, Laws}
 use Rattle.values.specs.Sums.{sum}
 use Rattle.values.proofs.Sums.{sum_more}
@@ -46,6 +46,10 @@ module _ {V View : Type 0} {o : Ops V} (laws : Laws o) (pass : Pass V View) (old
   -- one turn more
   pub summed_more : (M : ℕ → ℕ → ℕ → ℕ) (n : ℕ) (mid new : List V) → length mid ≡ length old → Swept o pass (summed M n) old mid → Swept o pass (M n) mid new → Swept o pass (summed M (n + 1)) old new
   summed_more M n mid new len = swept_joined (summed M n) (M n) (summed M (n + 1)) mid new len (λ x c. sym (sum_more naturals_laws n (λ t. M t x c)))
+
+  -- all turns
+  pub summed_all : (M : ℕ → ℕ → ℕ → ℕ) (m n : ℕ) (new : List V) → m ≡ n → Swept o pass (summed M m) old new → Swept o pass (summed M n) old new
+  summed_all M m n new e = swept_as (summed M m) (summed M n) new (λ x c. ap (λ k. summed M k x c) e)
 
 weights_within : (way : Way) (L : Landing) (from to : ℕ) (M N : ℕ → ℕ → ℕ) → Lengths way L from to → ((x c : ℕ) → x < voxels L → c < cells L → M x c ≡ N x c) → (q p : ℕ) → q < from → p < to → weights way M q p ≡ weights way N q p
 weights_within Forward L from to M N z h q p a b = let e = z.0 in let f = z.1 in h q p (omega arith) (omega arith)

@@ -3,6 +3,7 @@ use Rattle.std.proofs.Common.{◌≡◌, ℕ, ◌+◌, ◌-◌, ◌*◌, ◌<◌
 use borrow.Rule.Slice.PartMut.{put_mid}
 use Rattle.std.proofs.lemmas.List.FromFn.{fill_by_all}
 use Rattle.std.proofs.lemmas.List.{get_or_append_left, get_or-append_right, get_or-take, get_or-drop, length-append, length-take-le, length-drop}
+use Rattle.std.proofs.lemmas.List.Edits.{length-between, get_or-between}
 use Rattle.std.proofs.lemmas.Bool.{and_left, and_right, and_from, lt-leb, le-leb, lt-ltb, le-ltb, cond-true, cond-false, cases_lt}
 use Rattle.values.specs.Laws.{Ops, Laws}
 use Rattle.values.specs.Sums.{sum}
@@ -28,10 +29,10 @@ module _ {V : Type 0} (o : Ops V) (s n : ℕ) (xs : List V) (le : s + n ≤ leng
   wide = omega arith
 
   pub length_part : length part ≡ n
-  length_part = ap (λ k. length (take k (drop s xs))) wide ∙ length-take-le n (drop s xs) (omega (arith, length-drop s xs))
+  length_part = length-between xs s (s + n) le ∙ wide
 
   pub at_part : (p : ℕ) → p < n → at o part p ≡ at o xs (s + p)
-  at_part p h = let w = wide in get_or-take width (drop s xs) p o.zero (omega arith) ∙ get_or-drop s xs p o.zero
+  at_part p h = get_or-between xs s (s + n) p o.zero (omega arith)
 
   module _ (ys : List V) (len : length ys ≡ length part) where
     front : length (take s xs) ≡ s

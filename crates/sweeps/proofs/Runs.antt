@@ -43,10 +43,6 @@ module _ (es : List ℤ) (rises : Rising es) where
     pub share_high : (i : ℕ) → i < length es - 1 → high ≤ℤ edge i → share es low high i ≡ 0
     share_high i l h = overlap_high (edge i) (edge (i + 1)) low high (rises i l) ordered h
 
-    -- below `down` by its edge, and from there up to `first` one by one
-    pub before_run : (down first : ℕ) → down ≤ first → first < length es → (0 < down → edge down ≤ℤ low) → ((i : ℕ) → down ≤ i → i < first → edge (i + 1) ≤ℤ low) → (i : ℕ) → i < first → share es low high i ≡ 0
-    before_run down first le l below passed i h = share_low i (omega arith) (edges_before low down first le l below passed i h)
-
     pub after_run : (last : ℕ) → (last + 1 < length es → high ≤ℤ edge last) → (i : ℕ) → last ≤ i → i < length es - 1 → share es low high i ≡ 0
     after_run last beyond i le l =
         let a = edge_le last i le (omega arith) in

@@ -34,6 +34,7 @@ fn check_length(store: Store, found: usize, wanted: usize) -> Result<(), Refusal
 }
 
 // All checks stand before the first write, so a refusal alters nothing.
+#[tactic(auto, using(std::proofs::lemmas::Result::err_from_is_err_and), unfolding(crate::specs::Calls::call_check))]
 pub(crate) fn checked(
     plan: &Plan,
     view: usize,

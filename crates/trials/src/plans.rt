@@ -5,7 +5,6 @@ use scan::even::EvenAxis;
 use scan::failure::Failure;
 use scan::landed::Landed;
 use scan::listed::ListedAxis;
-use scan::refusal::{Refusal, Store};
 use std::alloc::{AllocError, Global};
 use std::test::Fail;
 
@@ -23,85 +22,83 @@ fn edges(heap: Global, many: i32) -> Result<Vec<i32>, AllocError> {
 }
 
 #[test]
-fn axes(rt: HostRuntime) -> Result<(), Fail> {
+fn axes_answer_their_edges_and_the_last_beyond(rt: HostRuntime) -> Result<(), Fail> {
     let heap = rt.alloc();
-    let uneven = ListedAxis::new(heap, &[-7, 0, 4_194_304])?;
+    let listed = ListedAxis::new(heap, &[-7, 0, 4_194_304])?;
     assert_eq!(rt;
-        (uneven.cells(), uneven.edge(1), uneven.edge(9)),
-        (2, 0, 4_194_304)
+        (
+            listed.cells(),
+            listed.edge(0),
+            listed.edge(1),
+            listed.edge(9)
+        ),
+        (2, -7, 0, 4_194_304)
     );
-    assert_eq!(rt;
-        refused(ListedAxis::new(heap, &[-7, 0, 4_194_305])),
-        Some((5, 2))
-    );
-    assert_eq!(rt;
-        refused(ListedAxis::new(heap, &[3, 3, 4_194_305])),
-        Some((5, 2))
-    );
-    assert_eq!(rt; refused(ListedAxis::new(heap, &[0, 3, 3])), Some((4, 2)));
-    assert_eq!(rt; refused(ListedAxis::new(heap, &[0])), Some((2, 0)));
     let even = EvenAxis::new(-6, 4, 3)?;
-    assert_eq!(rt; (even.cells(), even.edge(0), even.edge(3)), (3, -6, 6));
-    Ok(())
-}
-
-#[test]
-fn listed_axes(rt: HostRuntime) -> Result<(), Fail> {
-    let heap = rt.alloc();
-    let axis = ListedAxis::new(heap, &[-4_194_304, 0, 4_194_304])?;
     assert_eq!(rt;
-        (axis.cells(), axis.edge(0), axis.edge(9)),
-        (2, -4_194_304, 4_194_304)
-    );
-    assert_eq!(rt;
-        refused(ListedAxis::new(heap, &[-4_194_305, 0, 0])),
-        Some((5, 0))
+        (even.cells(), even.edge(0), even.edge(3), even.edge(9)),
+        (3, -6, 6, 6)
     );
     Ok(())
 }
 
 #[test]
-fn numbers_of_edges(rt: HostRuntime) -> Result<(), Fail> {
+fn axes_have_1_to_512_cells(rt: HostRuntime) -> Result<(), Fail> {
     let heap = rt.alloc();
     assert_eq!(rt; refused(ListedAxis::new(heap, &[0])), Some((2, 0)));
+    assert_eq!(rt; ListedAxis::new(heap, &[0, 3])?.cells(), 1);
     let most = ListedAxis::new(heap, &edges(heap, 513)?)?;
     assert_eq!(rt; most.cells(), 512);
     assert_eq!(rt;
         refused(ListedAxis::new(heap, &edges(heap, 514)?)),
         Some((2, 0))
     );
-    Ok(())
-}
-
-#[test]
-fn even_axes(rt: HostRuntime) -> Result<(), Fail> {
-    let even = EvenAxis::new(-6, 4, 3)?;
-    assert_eq!(rt; (even.cells(), even.edge(0), even.edge(9)), (3, -6, 6));
+    assert_eq!(rt; refused(EvenAxis::new(0, 1, 0)), Some((2, 0)));
+    assert_eq!(rt; EvenAxis::new(0, 1, 1)?.cells(), 1);
     assert_eq!(rt; EvenAxis::new(0, 1, 512)?.cells(), 512);
     assert_eq!(rt; refused(EvenAxis::new(0, 1, 513)), Some((2, 0)));
-    assert_eq!(rt; refused(EvenAxis::new(0, 1, 0)), Some((2, 0)));
+    Ok(())
+}
+
+#[test]
+fn edges_lie_in_range(rt: HostRuntime) -> Result<(), Fail> {
+    let heap = rt.alloc();
+    let widest = ListedAxis::new(heap, &[-4_194_304, 0, 4_194_304])?;
+    assert_eq!(rt; (widest.edge(0), widest.edge(2)), (-4_194_304, 4_194_304));
+    assert_eq!(rt;
+        refused(ListedAxis::new(heap, &[-4_194_305, 0, 0])),
+        Some((5, 0))
+    );
+    assert_eq!(rt;
+        refused(ListedAxis::new(heap, &[-7, 0, 4_194_305])),
+        Some((5, 2))
+    );
     assert_eq!(rt; refused(EvenAxis::new(4_194_300, 2, 3)), Some((5, 3)));
+    Ok(())
+}
+
+#[test]
+fn edges_rise(rt: HostRuntime) {
+    let heap = rt.alloc();
+    assert_eq!(rt; refused(ListedAxis::new(heap, &[0, 3, 3])), Some((4, 2)));
     assert_eq!(rt; refused(EvenAxis::new(0, 0, 3)), Some((4, 1)));
-    Ok(())
 }
 
 #[test]
-fn drafts(rt: HostRuntime) -> Result<(), Fail> {
+fn the_count_is_checked_before_the_range_and_the_range_before_the_rise(rt: HostRuntime) {
     let heap = rt.alloc();
-    assert_eq!(rt; refused(draft(heap, 0, 2000, 1000)), Some((6, 0)));
-    assert_eq!(rt; refused(draft(heap, 1000, 999, 998)), Some((6, 1)));
-    assert_eq!(rt; refused(draft(heap, 200, 2000, 1000)), Some((7, 0)));
-    assert_eq!(rt; refused(draft(heap, 201, 2000, 2000)), Some((8, 2)));
-    let plan = draft(heap, 201, 2000, 1999)?.seal();
-    assert_eq!(rt; (plan.voxels(), plan.cells(), plan.views()), (8, 4, 0));
-    Ok(())
+    assert_eq!(rt; refused(ListedAxis::new(heap, &[4_194_305])), Some((2, 0)));
+    assert_eq!(rt;
+        refused(ListedAxis::new(heap, &[3, 3, 4_194_305])),
+        Some((5, 2))
+    );
 }
 
 #[test]
-fn distances(rt: HostRuntime) {
+fn distances_are_limited(rt: HostRuntime) -> Result<(), Fail> {
     let heap = rt.alloc();
     assert_eq!(rt; refused(draft(heap, 0, 2000, 1000)), Some((6, 0)));
-    assert_eq!(rt; refused(draft(heap, 16_777_216, 33_554_432, 1000)), None);
+    draft(heap, 16_777_216, 33_554_432, 1000)?;
     assert_eq!(rt;
         refused(draft(heap, 16_777_217, 33_554_432, 1000)),
         Some((6, 0))
@@ -110,24 +107,47 @@ fn distances(rt: HostRuntime) {
         refused(draft(heap, 16_777_216, 33_554_433, 1000)),
         Some((6, 1))
     );
+    assert_eq!(rt; refused(draft(heap, 1000, 999, 998)), Some((6, 1)));
+    draft(heap, 1001, 1001, 1000)?;
+    Ok(())
 }
 
 #[test]
-fn panel_at_the_axis(rt: HostRuntime) {
-    assert_eq!(rt; refused(draft(rt.alloc(), 1001, 1001, 1000)), None);
+fn the_source_stands_off_the_volume_and_the_columns_reach_less_far_than_the_panel(
+    rt: HostRuntime,
+) -> Result<(), Fail> {
+    let heap = rt.alloc();
+    assert_eq!(rt; refused(draft(heap, 200, 2000, 1000)), Some((7, 0)));
+    assert_eq!(rt; refused(draft(heap, 201, 2000, 2000)), Some((8, 2)));
+    let plan = draft(heap, 201, 2000, 1999)?.seal();
+    assert_eq!(rt; (plan.voxels(), plan.cells(), plan.views()), (8, 4, 0));
+    Ok(())
 }
 
 #[test]
-fn views(rt: HostRuntime) -> Result<(), Fail> {
+fn views_are_numbered_up_to_1024_and_a_refused_one_is_not_added(
+    rt: HostRuntime,
+) -> Result<(), Fail> {
     let mut draft = draft(rt.alloc(), 500, 2000, 1000)?;
     assert_eq!(rt; refused(draft.add_view(64)), Some((9, 0)));
     assert_eq!(rt; refused(draft.add_view(-1)), Some((9, 0)));
+    assert_eq!(rt; draft.views(), 0);
     // A `for`, since a chain could not stop at a refusal more plainly.
     for _ in 0..1023 {
         draft.add_view(0)?;
     }
     assert_eq!(rt; draft.add_view(63)?, 1023);
     assert_eq!(rt; refused(draft.add_view(0)), Some((21, 0)));
+    assert_eq!(rt; refused(draft.add_view(64)), Some((9, 0)));
+    assert_eq!(rt; draft.views(), 1024);
+    assert_eq!(rt; draft.seal().views(), 1024);
+    Ok(())
+}
+
+#[test]
+fn a_view_answers_where_edges_land(rt: HostRuntime) -> Result<(), Fail> {
+    let mut draft = draft(rt.alloc(), 500, 2000, 1000)?;
+    draft.add_view(0)?;
     let plan = draft.seal();
     let view = plan.view(0).ok_or("no view")?;
     assert_eq!(rt;
@@ -139,19 +159,6 @@ fn views(rt: HostRuntime) -> Result<(), Fail> {
         ),
         (-91, -46, -250, -13)
     );
+    assert!(rt; plan.view(1).is_none());
     Ok(())
-}
-
-#[test]
-fn numbers(rt: HostRuntime) {
-    assert_eq!(rt; Refusal::NoView { view: 3, views: 3 }.number(), 22);
-    assert_eq!(rt;
-        Refusal::StoreLength {
-            store: Store::Working,
-            found: 3,
-            wanted: 4,
-        }
-        .number(),
-        23
-    );
 }

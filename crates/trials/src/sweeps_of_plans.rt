@@ -71,7 +71,7 @@ fn shown(heap: Global, store: &[Count]) -> Result<Vec<i64>, AllocError> {
 }
 
 #[test]
-fn worked_plan(rt: HostRuntime) -> Result<(), Fail> {
+fn the_worked_plan_gives_its_figures(rt: HostRuntime) -> Result<(), Fail> {
     let heap = rt.alloc();
     let plan = small(heap, &[0, 16])?;
     let ones = counts(heap, &[1, 1, 1, 1])?;
@@ -89,7 +89,7 @@ fn worked_plan(rt: HostRuntime) -> Result<(), Fail> {
 }
 
 #[test]
-fn refused_calls(rt: HostRuntime) -> Result<(), Fail> {
+fn refused_calls_leave_both_stores(rt: HostRuntime) -> Result<(), Fail> {
     let heap = rt.alloc();
     let plan = small(heap, &[0, 16])?;
     let one = Count::from(1);
@@ -121,7 +121,7 @@ fn refused_calls(rt: HostRuntime) -> Result<(), Fail> {
 }
 
 #[test]
-fn slabs_along_x(rt: HostRuntime) -> Result<(), Fail> {
+fn slabs_along_x_are_swept_both_ways(rt: HostRuntime) -> Result<(), Fail> {
     let heap = rt.alloc();
     let plan = small(heap, &[20])?;
     let mut volume = counts(heap, &[1, 2, 3, 4])?;
@@ -143,7 +143,7 @@ fn slabs_along_x(rt: HostRuntime) -> Result<(), Fail> {
 }
 
 #[test]
-fn uneven_cells(rt: HostRuntime) -> Result<(), Fail> {
+fn uneven_cells_are_swept_forward(rt: HostRuntime) -> Result<(), Fail> {
     let heap = rt.alloc();
     let plan = uneven(heap)?;
     let volume = counts(heap, &[1, 2, 5, 10, 17, 26, 37, 50, 65, 82, 101, 122])?;
@@ -180,7 +180,7 @@ fn parts(heap: Global, store: &[Pair]) -> Result<Vec<(i64, i64)>, AllocError> {
 }
 
 #[test]
-fn pairs(rt: HostRuntime) -> Result<(), Fail> {
+fn pairs_are_swept_forward(rt: HostRuntime) -> Result<(), Fail> {
     let heap = rt.alloc();
     let plan = uneven(heap)?;
     let volume = paired(heap, &[1, 2, 5, 10, 17, 26, 37, 50, 65, 82, 101, 122])?;
@@ -207,7 +207,7 @@ fn pairs(rt: HostRuntime) -> Result<(), Fail> {
 }
 
 #[test]
-fn pairs_back(rt: HostRuntime) -> Result<(), Fail> {
+fn pairs_are_swept_back(rt: HostRuntime) -> Result<(), Fail> {
     let heap = rt.alloc();
     let plan = uneven(heap)?;
     let minus = pair(-1, -1);
@@ -233,7 +233,7 @@ fn pairs_back(rt: HostRuntime) -> Result<(), Fail> {
 }
 
 #[test]
-fn reaches(rt: HostRuntime) -> Result<(), Fail> {
+fn reaches_are_swept_both_ways(rt: HostRuntime) -> Result<(), Fail> {
     let heap = rt.alloc();
     let plan = uneven(heap)?;
     let yes = Reach { yes: true };
@@ -249,7 +249,7 @@ fn reaches(rt: HostRuntime) -> Result<(), Fail> {
 
 // More columns than a sweep takes at once, and falling S.
 #[test]
-fn many_columns(rt: HostRuntime) -> Result<(), Fail> {
+fn more_columns_than_a_block_are_swept_forward(rt: HostRuntime) -> Result<(), Fail> {
     let heap = rt.alloc();
     let plan = uneven_before(heap, &EvenAxis::new(-180, 20, 18)?, &[40])?;
     let volume = counts(heap, &[1, 2, 5, 10, 17, 26, 37, 50, 65, 82, 101, 122])?;
@@ -275,7 +275,7 @@ fn many_columns(rt: HostRuntime) -> Result<(), Fail> {
 }
 
 #[test]
-fn many_columns_back(rt: HostRuntime) -> Result<(), Fail> {
+fn more_columns_than_a_block_are_swept_back(rt: HostRuntime) -> Result<(), Fail> {
     let heap = rt.alloc();
     let plan = uneven_before(heap, &EvenAxis::new(-180, 20, 18)?, &[40])?;
     let cells: Vec<Count> = (1..37).map(Count::from).collect(heap)?;
@@ -289,8 +289,8 @@ fn many_columns_back(rt: HostRuntime) -> Result<(), Fail> {
 }
 
 #[test]
-fn zeros(rt: HostRuntime) {
-    assert_eq!(rt; Count::ZERO, Count::neutral());
-    assert_eq!(rt; Pair::ZERO, Pair::neutral());
-    assert_eq!(rt; Reach::ZERO, Reach::neutral());
+fn kinds_name_their_zeros(rt: HostRuntime) {
+    assert_eq!(rt; Count::ZERO, Count::from(0));
+    assert_eq!(rt; Pair::ZERO, pair(0, 0));
+    assert_eq!(rt; Reach::ZERO, Reach { yes: false });
 }

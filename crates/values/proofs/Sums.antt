@@ -12,8 +12,12 @@ module _ {V : Type 0} {o : Ops V} (laws : Laws o) where
   pub zero_plus : (x : V) → o.plus o.zero x ≡ x
   zero_plus x = laws.plus_comm o.zero x ∙ laws.plus_zero x
 
-  pub zero_times : (x : V) → o.times o.zero x ≡ o.zero
-  zero_times x = laws.times_comm o.zero x ∙ laws.times_zero x
+  -- taken no times
+  pub multiple_none : (x : V) (n : ℕ) → n ≡ 0 → o.multiple x n ≡ o.zero
+  multiple_none x n e = ap (o.multiple x) e ∙ laws.multiple_zero x
+
+  pub plus_none : (x y : V) → y ≡ o.zero → o.plus x y ≡ x
+  plus_none x y e = ap (o.plus x) e ∙ laws.plus_zero x
 
   -- (a + b) + (c + d) is (a + c) + (b + d)
   pub plus_swap : (a b c d : V) → o.plus (o.plus a b) (o.plus c d) ≡ o.plus (o.plus a c) (o.plus b d)

@@ -1,28 +1,9 @@
 use Rattle.std.proofs.Common.{◌≡◌, ◌*◌, None, ap, arith}
-use Rattle.std.proofs.lemmas.Result.{err_from_is_err_and}
 use Rattle.scan.specs.Meanings.{plan_of}
 use Rattle.scan.specs.Plans.{panel_of}
 use Rattle.sweeps.specs.Calls.{system_of, call_check}
 use Rattle.sweeps.proofs.CallFacts.{view_end}
 use Rattle.sweeps.proofs.call.checked.Goals as goal
-
-pub returns-in_err-landed : goal.returns-in_err-landed
-unfolding call_check
-returns-in_err-landed c =
-    let p = err_from_is_err_and c.from_residual.result c.from_residual.ensures.1 in
-    rw (p.1, p.2) (grind arith)
-
-pub returns-in_err-check_length : goal.returns-in_err-check_length
-unfolding call_check
-returns-in_err-check_length c =
-    let p = err_from_is_err_and c.from_residual-in_err-check_length.result c.from_residual-in_err-check_length.ensures.1 in
-    rw (p.1, p.2) (grind arith)
-
-pub returns-in_err-check_length-2 : goal.returns-in_err-check_length-2
-unfolding call_check
-returns-in_err-check_length-2 c =
-    let p = err_from_is_err_and c.from_residual-in_err-check_length-2.result c.from_residual-in_err-check_length-2.ensures.1 in
-    rw (p.1, p.2) (grind arith)
 
 pub returns : goal.returns
 unfolding call_check

@@ -1,6 +1,6 @@
-use Rattle.std.proofs.Common.{◌≡◌, ◌-◌, length, ap, arith}
+use Rattle.std.proofs.Common.{◌≡◌, ◌-◌, length, arith}
 use Rattle.sweeps.specs.Passes.{slab_weight, block_weight}
-use Rattle.sweeps.proofs.Levels.{summed, summed_none, summed_more, swept_as}
+use Rattle.sweeps.proofs.Levels.{summed_none, summed_more, summed_all}
 use Rattle.sweeps.proofs.block.Block.sweep.Goals as goal
 
 pub loop-number-init : goal.loop-number-init
@@ -24,4 +24,4 @@ returns g c =
     let M = slab_weight L b.first (length b.columns.now - 1) in
     let slabs = c.slabs-number-end.ensures in
     let end : c.loop-number.number ≡ L.slabs = omega arith in
-    swept_as g.met.V.Value.lawful b.pass.now c.args.to.now (summed M c.loop-number.number) _ c.loop-number.to (λ x k. ap (λ n. summed M n x k) end) c.loop-number.invariant
+    summed_all g.met.V.Value.lawful b.pass.now c.args.to.now M c.loop-number.number L.slabs c.loop-number.to end c.loop-number.invariant

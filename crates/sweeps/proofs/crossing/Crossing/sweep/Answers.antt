@@ -1,6 +1,6 @@
-use Rattle.std.proofs.Common.{◌≡◌, ap, arith}
+use Rattle.std.proofs.Common.{◌≡◌, arith}
 use Rattle.sweeps.specs.Passes.{beam_weight, column_weight}
-use Rattle.sweeps.proofs.Levels.{summed, summed_none, summed_more, swept_as}
+use Rattle.sweeps.proofs.Levels.{summed_none, summed_more, summed_all}
 use Rattle.sweeps.proofs.crossing.Crossing.sweep.Goals as goal
 
 pub loop-height-init : goal.loop-height-init
@@ -25,5 +25,4 @@ returns g c =
     let len = x.slab_of.heights.0 in
     let cells = c.cells-height-end.ensures in
     let end : c.loop-height.height ≡ L.heights = omega arith in
-    swept_as g.met.V.Value.lawful x.pass.now c.args.to.now (summed M c.loop-height.height) _ c.loop-height.to
-    (λ a b. ap (λ n. summed M n a b) end) c.loop-height.invariant
+    summed_all g.met.V.Value.lawful x.pass.now c.args.to.now M c.loop-height.height L.heights c.loop-height.to end c.loop-height.invariant

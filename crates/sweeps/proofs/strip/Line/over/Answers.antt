@@ -1,8 +1,8 @@
-use Rattle.std.proofs.Common.{w64, SFits, arith, rules}
+use Rattle.std.proofs.Common.{◌≡◌, ℕ, ◌<◌, w64, SFits, arith, rules}
 use borrow.Author.Differences.{ints}
 use Rattle.std.proofs.lemmas.Int.{to_z-of_z}
-use Rattle.sweeps.specs.Runs.{Covers}
-use Rattle.sweeps.proofs.Runs.{before_run, after_run, share_none}
+use Rattle.sweeps.specs.Runs.{Covers, share}
+use Rattle.sweeps.proofs.Runs.{share_low, after_run, share_none}
 use Rattle.sweeps.proofs.strip.Line.over.Goals as goal
 use Rattle.sweeps.proofs.strip.Line.over.Goals.{then-over, else-over}
 
@@ -15,7 +15,7 @@ invariant_of-result c =
     let fh : SFits w64 over.high = search rules in
     let first = c.run_start-first.result in
     let passed = simp to_z-of_z at c.run_start-first.ensures.passed in
-    let before = before_run es rises over.low over.high over.ordered 0 first (omega arith) (omega arith) (λ some. absurd (omega arith)) (λ i le. passed i) in
+    let before : (i : ℕ) → i < first → share es over.low over.high i ≡ 0 = λ i h. share_low es rises over.low over.high over.ordered i (omega arith) (passed i h) in
     let covers : Covers es over.low over.high first c.if-over.last =
     elim c.if-over.branch [
       | then-over w ↦
