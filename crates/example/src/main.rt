@@ -37,7 +37,7 @@ fn planned(heap: Global) -> Result<Plan, Failure> {
 // The shadow of voxels that are all 1, in every view.
 fn shadow(heap: Global, plan: &Plan) -> Result<Vec<Count>, Failure> {
     let volume = vec![in heap; Count::from(1); plan.voxels()]?;
-    let mut working = vec![in heap; Count::ZERO; plan.views() * plan.cells()]?;
+    let mut working = vec![in heap; Count::ZERO; plan.places()]?;
     // By number, since the number of the view is what each call takes.
     for view in 0..plan.views() {
         forward(plan, view, Count::from(1), &volume, &mut working)?;
@@ -48,7 +48,7 @@ fn shadow(heap: Global, plan: &Plan) -> Result<Vec<Count>, Failure> {
 // How many voxels some cell of some view reaches.
 fn hits(heap: Global, plan: &Plan) -> Result<usize, Failure> {
     let yes = Reach { yes: true };
-    let working = vec![in heap; yes; plan.views() * plan.cells()]?;
+    let working = vec![in heap; yes; plan.places()]?;
     let mut volume = vec![in heap; Reach::ZERO; plan.voxels()]?;
     // By number, since the number of the view is what each call takes.
     for view in 0..plan.views() {

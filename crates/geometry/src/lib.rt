@@ -9,7 +9,6 @@ pub mod edge;
 mod floor;
 pub mod landed;
 pub mod no_step;
-mod overlap;
 pub mod step;
 pub mod stretch;
 pub mod turn;

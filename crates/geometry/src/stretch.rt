@@ -1,9 +1,7 @@
 // A stretch of an axis.
-ghost use Rattle.std.specs.Prelude.{◌≡◌, ◌≤ℤ◌};
+ghost use Rattle.std.specs.Prelude.{◌≡◌, ◌-ℤ◌, ◌≤ℤ◌};
 ghost use Rattle.std.specs.Int.{int_min, int_max};
-ghost use Rattle.geometry.specs.Overlap.{overlap, Conserved, EitherWay};
-
-use crate::overlap::gap;
+ghost use Rattle.geometry.specs.Overlap.{or_zero, overlap, Conserved, EitherWay};
 
 /// What lies between two ends of an axis, the lower end first.
 #[derive(Clone, Copy, PartialEq, Eq, Debug)]
@@ -11,6 +9,13 @@ pub struct Stretch {
     pub low: i64,
     pub high: i64,
     ghost ordered: { low ≤ℤ high },
+}
+
+// How far `top` lies above `low`, or 0 where it does not.
+fn gap(low: i64, top: i64) -> u64
+    ensures { result ≡ or_zero (top -ℤ low) }
+{
+    if low < top { top.abs_diff(low) } else { 0 }
 }
 
 impl Stretch {

@@ -171,3 +171,7 @@ voxels_of scan = cells_of scan.z * cells_of scan.y * cells_of scan.x
 -- The number of cells of the panel, in one view.
 abbrev pub panel_of : Scan → ℕ
 panel_of scan = cells_of scan.row * cells_of scan.column
+
+-- The number of cells of all views.
+abbrev pub places_of : Scan → ℕ
+places_of scan = length scan.steps * panel_of scan

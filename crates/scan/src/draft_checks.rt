@@ -48,7 +48,7 @@ pub(crate) fn accepted<'a, X: Axis, Y: Axis, C: Axis>(
 }
 
 // How far the farthest edge of an axis lies from 0.
-fn farthest<A: Axis>(axis: &A) -> u32
+fn greatest<A: Axis>(axis: &A) -> u32
     ensures { result ≡ greatest (A.edges axis.now) }
 {
     (0..axis.cells() + 1)
@@ -74,7 +74,7 @@ fn check_clearance<X: Axis, Y: Axis, C: Axis>(
 ) -> Result<(), Refusal>
     ensures { Verdict (clearance_check distances.source distances.panel (X.Axis.edges x.now) (Y.Axis.edges y.now) (C.Axis.edges column.now)) (λ _. Unit {0}) result }
 {
-    let widest = farthest(x).max(farthest(y));
+    let widest = greatest(x).max(greatest(y));
     if distances.source.unsigned_abs() <= 2 * u64::from(widest) {
         return Err(Refusal::SourceTooNear {
             source: distances.source,

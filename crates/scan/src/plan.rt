@@ -1,7 +1,7 @@
 // A sealed scan, which never changes.
 ghost use Rattle.std.specs.Prelude.{◌≡◌, ◌≤◌, length};
 ghost use Rattle.scan.specs.Axes.{cells_of};
-ghost use Rattle.scan.specs.Plans.{edges_along, voxels_of, panel_of};
+ghost use Rattle.scan.specs.Plans.{edges_along, voxels_of, panel_of, places_of};
 ghost use Rattle.scan.specs.Meanings.{plan_of};
 
 use crate::axis::Axis;
@@ -47,5 +47,13 @@ impl Plan {
         ensures most { result ≤ 262144 }
     {
         self.cells_along(ScanAxis::Row) * self.cells_along(ScanAxis::Column)
+    }
+
+    /// The number of places of a working store: a place for each panel cell of each view.
+    pub fn places(&self) -> usize
+        ensures value { result ≡ places_of (plan_of self.now) }
+        ensures most { result ≤ 268435456 }
+    {
+        self.views() * self.cells()
     }
 }

@@ -29,12 +29,12 @@ pub enum Refusal {
         before: i64,
         at: i64,
     },
-    /// An edge lies outside −4,194,304 .. 4,194,304.
+    /// An edge lies outside −4,194,304 to 4,194,304.
     OutOfRange {
         edge: usize,
         at: i64,
     },
-    /// The source stands outside 1 .. 2^24 from the rotation axis.
+    /// The source stands outside 1 to 2^24 from the rotation axis.
     SourceDistance {
         at: i64,
     },
@@ -43,7 +43,7 @@ pub enum Refusal {
         at: i64,
         source: i64,
     },
-    /// The source stands no farther than twice the widest edge of x and y.
+    /// The source stands no farther than twice the greatest |edge| of x and y.
     SourceTooNear {
         source: i64,
         widest: i64,
@@ -54,7 +54,7 @@ pub enum Refusal {
         at: i64,
         panel: i64,
     },
-    /// A step lies outside 0 .. 63.
+    /// A step lies outside 0 to 63.
     StepOutOfRange {
         step: i64,
     },

@@ -8,7 +8,7 @@ use Rattle.std.proofs.lemmas.List.Folds.{fold-map, max_of_map}
 use Rattle.scan.specs.Axes.{edge_of}
 use Rattle.scan.specs.Plans.{greatest}
 use Rattle.scan.specs.Numbered.{by_number}
-use Rattle.scan.proofs.draft_checks.farthest.Goals as goal
+use Rattle.scan.proofs.draft_checks.greatest.Goals as goal
 
 pub returns : goal.returns
 returns g c =
