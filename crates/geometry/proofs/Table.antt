@@ -26,7 +26,7 @@ abbrev steep_at : ℕ → Bool
 steep_at q = nat_le 11585 (nat_abs (main_of q)) && (nat_le (nat_abs (main_of q)) 16384 && nat_le (nat_abs (side_of q)) (nat_abs (main_of q)))
 
 pub all_steep : (q : ℕ) → q < 64 → Steep (main_of q) (side_of q)
-unfolding sine main_of side_of
+unfolding sine slab_axis main_of side_of
 all_steep q h =
     let t = and_parts (nat_le 11585 (nat_abs (main_of q))) (nat_le (nat_abs (main_of q)) 16384 && nat_le (nat_abs (side_of q)) (nat_abs (main_of q))) (from_all steep_at 64 refl q h) in
     let u = and_parts (nat_le (nat_abs (main_of q)) 16384) (nat_le (nat_abs (side_of q)) (nat_abs (main_of q))) t.1 in

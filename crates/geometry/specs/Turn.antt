@@ -52,8 +52,8 @@ slab_axis q = slabs_by (sin_of q) (cos_of q)
 
 -- a of a step
 unfoldable pub main_of : ℕ → ℤ
-main_of q = main_part (slabs_by (sin_of q) (cos_of q)) (sin_of q) (cos_of q)
+main_of q = main_part (slab_axis q) (sin_of q) (cos_of q)
 
 -- b of a step
 unfoldable pub side_of : ℕ → ℤ
-side_of q = side_part (slabs_by (sin_of q) (cos_of q)) (sin_of q) (cos_of q)
+side_of q = side_part (slab_axis q) (sin_of q) (cos_of q)
