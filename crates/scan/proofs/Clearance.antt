@@ -2,7 +2,8 @@
 use Rattle.std.specs.Prelude.{◌≡◌, ℕ, Bool, List, length, ℤ, None, nat_le, unsigned_abs}
 use Rattle.std.proofs.Common.{sym, arith}
 use Rattle.scan.specs.Axes.{edge_of}
-use Rattle.scan.specs.Plans.{first_beyond, clearance_check, SourceClear, ColumnsNearer}
+use Rattle.scan.specs.DraftChecks.{first_beyond, clearance_check}
+use Rattle.scan.specs.Limits.{SourceClear, ColumnsNearer}
 use Rattle.scan.proofs.Firsts.{first_none}
 use Rattle.scan.specs.Numbered.{edge_at}
 

@@ -2,7 +2,7 @@
 use Rattle.std.specs.Prelude.{◌≡◌, ℕ, zero, suc, ◌+◌, ◌<◌, ◌≤◌, Bool, false, None}
 use Rattle.std.specs.List.{find, range_with_len}
 use Rattle.std.proofs.Common.{arith}
-use Rattle.scan.specs.Checks.{first_where}
+use Rattle.scan.specs.Verdicts.{first_where}
 
 -- there is none where the test fails of every number
 found_none : (test : ℕ → Bool) (a n : ℕ) → find test (range_with_len a n) ≡ None → (k : ℕ) → a ≤ k → k < a + n → test k ≡ false

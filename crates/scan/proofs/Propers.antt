@@ -4,7 +4,7 @@ use Rattle.std.proofs.Common.{sym, ap, ◌∙◌, arith, w32, SFits}
 use Rattle.std.proofs.lemmas.Int.{ints}
 use Rattle.std.proofs.lemmas.List.FromFn.{length-map-range_with_len, get_or-map-range_with_len}
 use Rattle.scan.specs.Axes.{Proper, Rises, Within, edge_of, even_edge, even_edges}
-use Rattle.scan.specs.Checks.{first_outside, first_not_rising, edges_check, count_check}
+use Rattle.scan.specs.AxisChecks.{first_outside, first_not_rising, edges_check, count_check}
 use Rattle.scan.specs.Numbered.{edge_within}
 use Rattle.scan.proofs.Firsts.{first_none}
 

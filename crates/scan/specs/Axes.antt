@@ -1,5 +1,5 @@
 -- The edges of an axis.
-use Rattle.std.specs.Prelude.{ℕ, ◌+◌, ◌-◌, ◌<◌, ◌≤◌, min, List, map, length, ℤ, pos, ◌+ℤ◌, ◌*ℤ◌, ◌<ℤ◌, slice_index_or, unsigned_abs}
+use Rattle.std.specs.Prelude.{ℕ, ◌+◌, ◌-◌, ◌<◌, ◌≤◌, min, max, List, map, fold, length, ℤ, pos, ◌+ℤ◌, ◌*ℤ◌, ◌<ℤ◌, slice_index_or, unsigned_abs}
 use Rattle.std.specs.List.{range_with_len}
 
 -- Each edge lies above the one before it.
@@ -24,6 +24,26 @@ cells_of es = length es - 1
 -- The edge of a number, where a number past the last stands for the last.
 abbrev pub edge_of : List ℤ → ℕ → ℤ
 edge_of es i = slice_index_or es (min i (cells_of es)) (pos 0)
+
+-- The cell of a number, where a number past the last stands for the last.
+abbrev pub cell_of : List ℤ → ℕ → ℕ
+cell_of es j = min j (cells_of es - 1)
+
+-- The edge at which a cell begins.
+abbrev pub low_of : List ℤ → ℕ → ℤ
+low_of es j = edge_of es (cell_of es j)
+
+-- The edge at which a cell ends.
+abbrev pub high_of : List ℤ → ℕ → ℤ
+high_of es j = edge_of es (cell_of es j + 1)
+
+-- How far the farthest of some edges lies from 0.
+abbrev pub greatest : List ℤ → ℕ
+greatest es = fold (λ most e. max most (unsigned_abs e)) 0 es
+
+-- How far the farthest edge of x and y lies from 0.
+abbrev pub widest : List ℤ → List ℤ → ℕ
+widest x y = max (greatest x) (greatest y)
 
 -- The edge of a number of an axis whose cells are all as wide as the pitch.
 abbrev pub even_edge : ℤ → ℤ → ℕ → ℤ

@@ -7,7 +7,9 @@ use Rattle.std.proofs.lemmas.Int.{ints}
 use Rattle.geometry.specs.declared.direction.SlabAxis.{SlabAxis}
 use Rattle.geometry.specs.declared.step.Step.{Step}
 use Rattle.scan.specs.declared.layout.Layout.{Layout}
-use Rattle.scan.specs.Plans.{Scan, Fitted, landing_of}
+use Rattle.scan.specs.Scans.{Scan}
+use Rattle.scan.specs.Limits.{Fitted}
+use Rattle.scan.specs.Views.{landing_of}
 use Rattle.scan.specs.Meanings.{numbers, scan_of}
 
 -- as many views as numbers of views

@@ -13,9 +13,11 @@ use Rattle.geometry.proofs.Divisors.{depth_beside, slant_beside}
 use Rattle.geometry.proofs.OneWay.{cross_rises, height_rises, row_rises, column_rises, column_falls}
 use Rattle.geometry.proofs.Within.{cross_dividend, height_dividend, column_dividend, cross_within, height_within}
 use Rattle.geometry.proofs.Overlaps.{overlap_most}
-use Rattle.scan.specs.Axes.{Proper, cells_of, edge_of}
+use Rattle.scan.specs.Axes.{Proper, cells_of, edge_of, low_of, high_of, cell_of, greatest}
 use Rattle.scan.specs.Landing.{Landing, Sound, CellLimits, weight, cross_overlap, height_overlap, slab_of, cross_of, height_of}
-use Rattle.scan.specs.Plans.{Scan, Fitted, greatest, slab_edges, cross_edges, slab_sum_of, column_sum_of, low_of, high_of, cell_of, landing_of, landing, step_of}
+use Rattle.scan.specs.Scans.{Scan}
+use Rattle.scan.specs.Limits.{Fitted}
+use Rattle.scan.specs.Views.{slab_edges, cross_edges, slab_sum_of, column_sum_of, landing_of, landing, step_of}
 use Rattle.scan.specs.Lands.{Divides, Lands}
 use Rattle.scan.specs.Numbered.{edge_within, edge_rises}
 use Rattle.geometry.proofs.Conditions.{Placed, Reached}

@@ -6,7 +6,8 @@ use Rattle.geometry.specs.Landed.{depth, slant}
 use Rattle.geometry.specs.Turn.{slab_axis, main_of, side_of}
 use Rattle.scan.specs.Axes.{edge_of}
 use Rattle.scan.specs.Landing.{Sound}
-use Rattle.scan.specs.Plans.{Scan, cross_edges, slab_sum_of, column_sum_of, step_of, landing, weight_of}
+use Rattle.scan.specs.Scans.{Scan}
+use Rattle.scan.specs.Views.{cross_edges, slab_sum_of, column_sum_of, step_of, landing, weight_of}
 
 -- No division by which an edge lands is by zero, and none is of a number greater than 2^62.
 pub record Divides (scan : Scan) (along : SlabAxis) (a b : ℤ) : Type 0 where

@@ -1,7 +1,7 @@
 -- The scan that a draft or a plan holds.
 use Rattle.std.specs.Prelude.{ℕ, List, map, vec_items}
 use Rattle.geometry.specs.declared.step.Step.{Step}
-use Rattle.scan.specs.Plans.{Scan}
+use Rattle.scan.specs.Scans.{Scan}
 use Rattle.scan.specs.declared.layout.Layout.{Layout}
 use Rattle.scan.specs.declared.draft.Draft.{Draft}
 use Rattle.scan.specs.declared.plan.Plan.{Plan}

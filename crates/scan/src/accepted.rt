@@ -1,5 +1,5 @@
 // What a draft is made of.
-ghost use Rattle.scan.specs.Plans.{SourceClear, ColumnsNearer};
+ghost use Rattle.scan.specs.Limits.{SourceClear, ColumnsNearer};
 
 use crate::axis::Axis;
 use geometry::distances::Distances;

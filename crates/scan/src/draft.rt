@@ -1,7 +1,9 @@
 // A scan to which views can still be added.
 ghost use Rattle.std.specs.Prelude.{◌≡◌, length, Ok, Err, IfOk, unsigned_abs};
-ghost use Rattle.scan.specs.Checks.{Outcome};
-ghost use Rattle.scan.specs.Plans.{draft_check, view_check, unviewed, with_view, Fitted};
+ghost use Rattle.scan.specs.Verdicts.{Outcome};
+ghost use Rattle.scan.specs.DraftChecks.{draft_check, view_check};
+ghost use Rattle.scan.specs.Scans.{unviewed, with_view};
+ghost use Rattle.scan.specs.Limits.{Fitted};
 ghost use Rattle.scan.specs.Meanings.{draft_of, plan_of};
 
 use crate::accepted::Accepted;

@@ -1,7 +1,8 @@
 // The checks that a draft and its views pass.
 ghost use Rattle.std.specs.Prelude.{◌≡◌, unsigned_abs};
-ghost use Rattle.scan.specs.Checks.{Verdict};
-ghost use Rattle.scan.specs.Plans.{greatest, first_beyond, draft_check, distances_check, clearance_check, view_check};
+ghost use Rattle.scan.specs.Verdicts.{Verdict};
+ghost use Rattle.scan.specs.Axes.{greatest};
+ghost use Rattle.scan.specs.DraftChecks.{first_beyond, draft_check, distances_check, clearance_check, view_check};
 
 use crate::accepted::Accepted;
 use crate::axis::Axis;

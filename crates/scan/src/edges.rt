@@ -1,6 +1,7 @@
 // The checks that the edges of every kind of axis pass before they are an axis.
 ghost use Rattle.std.specs.Prelude.{◌≡◌, ℕ, ◌+◌, ◌-◌, ◌^◌, ◌<◌, ℤ, IfSome};
-ghost use Rattle.scan.specs.Checks.{Verdict, count_check, first_outside, first_not_rising, edges_check};
+ghost use Rattle.scan.specs.Verdicts.{Verdict};
+ghost use Rattle.scan.specs.AxisChecks.{count_check, first_outside, first_not_rising, edges_check};
 
 use crate::refusal::Refusal;
 use geometry::edge::FARTHEST_EDGE;

@@ -1,7 +1,8 @@
 // An axis whose cells are all as wide.
 ghost use Rattle.std.specs.Prelude.{◌≡◌, ◌+◌, ◌≤◌};
 ghost use Rattle.scan.specs.Axes.{Proper, even_edge, even_edges};
-ghost use Rattle.scan.specs.Checks.{Verdict, even_check};
+ghost use Rattle.scan.specs.Verdicts.{Verdict};
+ghost use Rattle.scan.specs.AxisChecks.{even_check};
 
 use crate::axis::{Axis, MOST_CELLS};
 use crate::edges::{Edges, check_count, check_edges};

@@ -1,6 +1,6 @@
 // What a draft and a plan hold of a scan.
 ghost use Rattle.std.specs.Prelude.{◌≤◌, vec_len};
-ghost use Rattle.scan.specs.Plans.{SourceClear, ColumnsNearer};
+ghost use Rattle.scan.specs.Limits.{SourceClear, ColumnsNearer};
 
 use crate::listed::ListedAxis;
 use geometry::distances::Distances;

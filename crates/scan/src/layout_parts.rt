@@ -1,7 +1,7 @@
 // What a layout says of its scan.
 // Apart from layout.rt: what these methods promise is defined over `Layout`, and a file that declares a type with a ghost field may not import that.
 ghost use Rattle.std.specs.Prelude.{◌≡◌, ◌≤◌, length};
-ghost use Rattle.scan.specs.Plans.{edges_along};
+ghost use Rattle.scan.specs.Scans.{edges_along};
 ghost use Rattle.scan.specs.Meanings.{scan_of};
 
 use crate::layout::Layout;

@@ -1,8 +1,8 @@
 // An axis whose edges are listed.
 ghost use Rattle.std.specs.Prelude.{◌≡◌, length, pos, IfOk, slice_index_or};
-ghost use Rattle.scan.specs.Axes.{Proper, edge_of};
-ghost use Rattle.scan.specs.Checks.{Outcome, listed_check};
-ghost use Rattle.scan.specs.Plans.{low_of, high_of};
+ghost use Rattle.scan.specs.Axes.{Proper, edge_of, low_of, high_of};
+ghost use Rattle.scan.specs.Verdicts.{Outcome};
+ghost use Rattle.scan.specs.AxisChecks.{listed_check};
 
 use crate::axis::{Axis, MOST_CELLS};
 use crate::edges::{Edges, check_count, check_edges};

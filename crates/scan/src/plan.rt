@@ -1,7 +1,7 @@
 // A sealed scan, which never changes.
 ghost use Rattle.std.specs.Prelude.{◌≡◌, ◌≤◌, length};
 ghost use Rattle.scan.specs.Axes.{cells_of};
-ghost use Rattle.scan.specs.Plans.{edges_along, voxels_of, panel_of, places_of};
+ghost use Rattle.scan.specs.Scans.{edges_along, voxels_of, panel_of, places_of};
 ghost use Rattle.scan.specs.Meanings.{plan_of};
 
 use crate::axis::Axis;

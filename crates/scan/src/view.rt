@@ -1,6 +1,6 @@
 // One view of a plan.
 ghost use Rattle.std.specs.Prelude.{◌≡◌, ◌<◌, ◌≤◌, length, Some, None};
-ghost use Rattle.scan.specs.Plans.{slab_edges, cross_edges, landing_of, landing};
+ghost use Rattle.scan.specs.Views.{slab_edges, cross_edges, landing_of, landing};
 ghost use Rattle.scan.specs.Meanings.{plan_of};
 ghost use Rattle.scan.specs.Lands.{Lands};
 ghost use Rattle.scan.specs.Fits.{fitted};

@@ -5,7 +5,8 @@ use Rattle.geometry.specs.declared.direction.SlabAxis.{SlabAxis}
 use Rattle.geometry.specs.declared.direction.SlabAxis.TheVariants.{X, Y}
 use Rattle.geometry.specs.Turn.{slab_axis, main_of, side_of}
 use Rattle.scan.specs.Landing.{Landing, voxels, cells, weight}
-use Rattle.scan.specs.Plans.{Scan, step_of, landing_of, landing, voxels_of, panel_of}
+use Rattle.scan.specs.Scans.{Scan, voxels_of, panel_of}
+use Rattle.scan.specs.Views.{step_of, landing_of, landing}
 use Rattle.values.specs.Laws.{Ops, Laws}
 use Rattle.sweeps.specs.Strips.{Gained}
 use Rattle.sweeps.specs.Systems.{System, forward, back}

@@ -1,8 +1,9 @@
 -- What the calls on a sealed plan answer, and when they refuse.
 use Rattle.std.specs.Prelude.{ℕ, not, List, length, count_by, Some, None, Option, ◌==◌, nat_le}
 use Rattle.std.specs.Option.{option_or}
-use Rattle.scan.specs.Checks.{refused_where}
-use Rattle.scan.specs.Plans.{Scan, weight_of, voxels_of, panel_of}
+use Rattle.scan.specs.Verdicts.{refused_where}
+use Rattle.scan.specs.Scans.{Scan, voxels_of, panel_of}
+use Rattle.scan.specs.Views.{weight_of}
 use Rattle.scan.specs.declared.refusal.Refusal.{Refusal}
 use Rattle.scan.specs.declared.refusal.Refusal.TheVariants.{NoView, StoreLength}
 use Rattle.scan.specs.declared.refusal.Store.TheVariants.{Volume, Working}

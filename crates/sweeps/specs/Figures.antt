@@ -3,7 +3,9 @@ use Rattle.std.specs.Prelude.{◌≡◌, ℕ, List, [], ◌∷◌, map, ℤ, pos
 use Rattle.values.specs.Counts.{counted, count_ops, shown}
 use Rattle.values.specs.declared.count.Count.{Count}
 use Rattle.scan.specs.Landing.{Landing}
-use Rattle.scan.specs.Plans.{Scan, landing, draft_check}
+use Rattle.scan.specs.Scans.{Scan}
+use Rattle.scan.specs.Views.{landing}
+use Rattle.scan.specs.DraftChecks.{draft_check}
 use Rattle.scan.specs.declared.refusal.Refusal.TheVariants.{SourceTooNear, ColumnBeyond}
 use Rattle.sweeps.specs.Stores.{inner}
 use Rattle.sweeps.specs.Systems.{System, forward, back}

@@ -4,7 +4,8 @@ use Rattle.std.specs.Int.{int_min, int_max}
 use Rattle.values.specs.Laws.{Ops}
 use Rattle.values.specs.Sums.{sum}
 use Rattle.scan.specs.Landing.{Landing, by_slabs, nx, ny, voxels, cells, cross_overlap, height_overlap}
-use Rattle.scan.specs.Plans.{Scan, landing, panel_of}
+use Rattle.scan.specs.Scans.{Scan, panel_of}
+use Rattle.scan.specs.Views.{landing}
 use Rattle.sweeps.specs.Calls.{system_of, call_check}
 use Rattle.sweeps.specs.Strips.{naturals, laid, Inside, Gained}
 use Rattle.sweeps.specs.Tables.{Tabled}

@@ -1,5 +1,5 @@
 ghost use Rattle.std.specs.Prelude.{◌≡◌, ◌==◌, not, Some, Ok, Err};
-ghost use Rattle.scan.specs.Checks.{Verdict, refused_where};
+ghost use Rattle.scan.specs.Verdicts.{Verdict, refused_where};
 ghost use Rattle.scan.specs.Meanings.{plan_of};
 ghost use Rattle.scan.specs.declared.refusal.Refusal.TheVariants.{StoreLength};
 ghost use Rattle.sweeps.specs.Calls.{system_of, call_check};

@@ -5,8 +5,7 @@ use Rattle.std.proofs.Common.{sym, ap, ◌∙◌, arith, rules}
 use Rattle.std.proofs.lemmas.Iterator.{YieldsList-from_map, YieldsList-from_range}
 use Rattle.std.proofs.lemmas.Iterator.Consumers.{reduce_from_yields_List}
 use Rattle.std.proofs.lemmas.List.Folds.{fold-map, max_of_map}
-use Rattle.scan.specs.Axes.{edge_of}
-use Rattle.scan.specs.Plans.{greatest}
+use Rattle.scan.specs.Axes.{edge_of, greatest}
 use Rattle.scan.specs.Numbered.{by_number}
 use Rattle.scan.proofs.draft_checks.greatest.Goals as goal
 

@@ -1,6 +1,6 @@
 use Rattle.std.proofs.Common.{◌≡◌, ◌*◌, None, ap, arith}
 use Rattle.scan.specs.Meanings.{plan_of}
-use Rattle.scan.specs.Plans.{panel_of}
+use Rattle.scan.specs.Scans.{panel_of}
 use Rattle.sweeps.specs.Calls.{system_of, call_check}
 use Rattle.sweeps.proofs.CallFacts.{view_end}
 use Rattle.sweeps.proofs.call.checked.Goals as goal

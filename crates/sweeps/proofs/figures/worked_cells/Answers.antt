@@ -3,7 +3,7 @@ use Rattle.values.specs.Sums.{sum}
 use Rattle.geometry.specs.Turn.{sine, slab_axis, main_of, side_of}
 use Rattle.geometry.specs.Landed.{depth, slant, cross_edge, height_edge, column_edge, row_edge}
 use Rattle.scan.specs.Landing.{cross_overlap, height_overlap, weight}
-use Rattle.scan.specs.Plans.{landing}
+use Rattle.scan.specs.Views.{landing}
 use Rattle.sweeps.specs.Systems.{forward, back}
 use Rattle.sweeps.proofs.figures.worked_cells.Goals as goal
 

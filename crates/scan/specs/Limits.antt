@@ -1,0 +1,28 @@
+-- What every draft and every plan keeps.
+use Rattle.std.specs.Prelude.{ℕ, ◌*◌, ◌^◌, ◌<◌, ◌≤◌, List, length, ℤ, pos, ◌≤ℤ◌, slice_index, slice_index_or, unsigned_abs}
+use Rattle.scan.specs.Axes.{Proper, widest}
+use Rattle.scan.specs.Scans.{Scan}
+
+-- Twice any edge of x and y lies less than D from 0.
+abbrev pub SourceClear : ℤ → List ℤ → List ℤ → Type 0
+SourceClear source x y = 2 * widest x y < unsigned_abs source
+
+-- Every edge of the columns lies less than F from 0.
+abbrev pub ColumnsNearer : ℤ → List ℤ → Type 0
+ColumnsNearer panel column = (i : ℕ) → i < length column → unsigned_abs (slice_index_or column i (pos 0)) < unsigned_abs panel
+
+-- What every draft and every plan keeps.
+pub record Fitted (scan : Scan) : Type 0 where
+  pub source_least : pos 1 ≤ℤ scan.source
+  pub source_most : scan.source ≤ℤ pos (2 ^ 24)
+  pub panel_least : scan.source ≤ℤ scan.panel
+  pub panel_most : scan.panel ≤ℤ pos (2 ^ 25)
+  pub x : Proper scan.x
+  pub y : Proper scan.y
+  pub z : Proper scan.z
+  pub column : Proper scan.column
+  pub row : Proper scan.row
+  pub clear : SourceClear scan.source scan.x scan.y
+  pub nearer : ColumnsNearer scan.panel scan.column
+  pub steps : (v : ℕ) → slice_index scan.steps v < 64
+  pub views : length scan.steps ≤ 1024

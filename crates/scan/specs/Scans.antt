@@ -1,0 +1,55 @@
+-- What a draft and a plan say of a scan.
+use Rattle.std.specs.Prelude.{ℕ, ◌*◌, List, [], ◌∷◌, ◌++◌, length, ℤ}
+use Rattle.scan.specs.Axes.{cells_of}
+use Rattle.scan.specs.declared.scan_axis.ScanAxis.{ScanAxis}
+use Rattle.scan.specs.declared.scan_axis.ScanAxis.TheVariants.{X, Y, Z, Column, Row}
+
+-- A scan: the distances D and F from the source to the rotation axis and to the panel, the edges of the volume and of the panel, and the steps of the turn that it is viewed from.
+pub record Scan : Type 0 where
+  pub source : ℤ
+  pub panel : ℤ
+  pub x : List ℤ
+  pub y : List ℤ
+  pub z : List ℤ
+  pub column : List ℤ
+  pub row : List ℤ
+  pub steps : List ℕ
+
+-- A scan that has no views yet.
+abbrev pub unviewed : ℤ → ℤ → List ℤ → List ℤ → List ℤ → List ℤ → List ℤ → Scan
+unviewed source panel x y z column row =
+    record { source = source; panel = panel; x = x; y = y; z = z; column = column; row = row; steps = [] }
+
+-- A scan with one more view, from a step of the turn.
+abbrev pub with_view : Scan → ℕ → Scan
+with_view scan step =
+    record {
+      source = scan.source;
+      panel = scan.panel;
+      x = scan.x;
+      y = scan.y;
+      z = scan.z;
+      column = scan.column;
+      row = scan.row;
+      steps = scan.steps ++ (step ∷ []);
+    }
+
+-- The edges of one axis of a scan.
+abbrev pub edges_along : Scan → ScanAxis → List ℤ
+edges_along scan X = scan.x
+edges_along scan Y = scan.y
+edges_along scan Z = scan.z
+edges_along scan Column = scan.column
+edges_along scan Row = scan.row
+
+-- The number of voxels.
+abbrev pub voxels_of : Scan → ℕ
+voxels_of scan = cells_of scan.z * cells_of scan.y * cells_of scan.x
+
+-- The number of cells of the panel, in one view.
+abbrev pub panel_of : Scan → ℕ
+panel_of scan = cells_of scan.row * cells_of scan.column
+
+-- The number of cells of all views.
+abbrev pub places_of : Scan → ℕ
+places_of scan = length scan.steps * panel_of scan

@@ -1,0 +1,52 @@
+-- Where the edges of a view of a scan land, and its weights.
+use Rattle.std.specs.Prelude.{ℕ, List, ℤ, ◌+ℤ◌, slice_index}
+use Rattle.geometry.specs.Landed.{slab_sum, cross_edge, height_edge, column_edge, row_edge}
+use Rattle.geometry.specs.Turn.{slab_axis, main_of, side_of}
+use Rattle.geometry.specs.declared.direction.SlabAxis.{SlabAxis}
+use Rattle.scan.specs.Axes.{cells_of, edge_of, low_of, high_of}
+use Rattle.scan.specs.Landing.{Landing, by_slabs, weight}
+use Rattle.scan.specs.Scans.{Scan}
+
+-- The edges of the slabs.
+abbrev pub slab_edges : Scan → SlabAxis → List ℤ
+slab_edges scan along = by_slabs along scan.x scan.y
+
+-- The edges of the other axis of the plane of rotation.
+abbrev pub cross_edges : Scan → SlabAxis → List ℤ
+cross_edges scan along = by_slabs along scan.y scan.x
+
+-- Q of slab j, which is twice its middle with the sign that its axis gives it.
+abbrev pub slab_sum_of : Scan → SlabAxis → ℕ → ℤ
+slab_sum_of scan along j = slab_sum along (low_of (slab_edges scan along) j) (high_of (slab_edges scan along) j)
+
+-- K of column k, the sum of its two edges: twice its middle.
+abbrev pub column_sum_of : Scan → ℕ → ℤ
+column_sum_of scan k = low_of scan.column k +ℤ high_of scan.column k
+
+-- Where the edges of a scan land, by the slab axis and the a and b of a direction.
+abbrev pub landing_of : Scan → SlabAxis → ℤ → ℤ → Landing
+landing_of scan along a b =
+    record {
+      along = along;
+      slabs = cells_of (slab_edges scan along);
+      crosses = cells_of (cross_edges scan along);
+      heights = cells_of scan.z;
+      columns = cells_of scan.column;
+      rows = cells_of scan.row;
+      U = λ j i. cross_edge scan.source a b (slab_sum_of scan along j) (edge_of (cross_edges scan along) i);
+      W = λ j l. height_edge scan.source a (slab_sum_of scan along j) (edge_of scan.z l);
+      S = λ k. column_edge scan.source scan.panel a b (edge_of scan.column k);
+      T = λ k m. row_edge scan.source scan.panel a b (column_sum_of scan k) (edge_of scan.row m);
+    }
+
+-- The step of a view.
+abbrev pub step_of : Scan → ℕ → ℕ
+step_of scan v = slice_index scan.steps v
+
+-- Where the edges of a view land.
+unfoldable pub landing : Scan → ℕ → Landing
+landing scan v = landing_of scan (slab_axis (step_of scan v)) (main_of (step_of scan v)) (side_of (step_of scan v))
+
+-- The weight of a voxel and a cell in a view.
+abbrev pub weight_of : Scan → ℕ → ℕ → ℕ → ℕ
+weight_of scan v x c = weight (landing scan v) x c
