@@ -15,9 +15,6 @@ use crate::listed::ListedAxis;
 use crate::plan::Plan;
 use std::alloc::{AllocError, Global};
 
-/// How many views a draft may have.
-pub const MOST_VIEWS: usize = 1024;
-
 /// A scan to which views can still be added. `seal` makes it a plan.
 #[derive(Drop)]
 pub struct Draft {

@@ -6,7 +6,7 @@ ghost use Rattle.scan.specs.DraftChecks.{first_beyond, draft_check, distances_ch
 
 use crate::accepted::Accepted;
 use crate::axis::Axis;
-use crate::draft::MOST_VIEWS;
+use crate::plan::MOST_VIEWS;
 use crate::refusal::Refusal;
 use geometry::distances::{Distances, FARTHEST_PANEL, FARTHEST_SOURCE};
 use geometry::step::Step;

@@ -8,6 +8,9 @@ use crate::axis::Axis;
 use crate::layout::Layout;
 use crate::scan_axis::ScanAxis;
 
+/// How many views a draft or a plan may have.
+pub const MOST_VIEWS: usize = 1024;
+
 /// A sealed scan: it takes no more views, and can be swept.
 #[derive(Drop)]
 pub struct Plan {
