@@ -1,6 +1,7 @@
 -- Columns side by side, and the tables of a block.
-use Rattle.std.proofs.Common.{◌≡◌, ℕ, ◌+◌, ◌-◌, ◌*◌, ◌<◌, ◌≤◌, List, length, slice_index_or, take, drop, ℤ, pos, sym, ap, ◌∙◌, ap₂, mul-le-mul_right, add-mul, one-mul, arith}
+use Rattle.std.proofs.Common.{◌≡◌, ℕ, ◌+◌, ◌*◌, ◌<◌, ◌≤◌, List, length, slice_index_or, ℤ, pos, sym, ap, ◌∙◌, ap₂, mul-le-mul_right, add-mul, one-mul, arith}
 use lib.Arith.{digits_div, digits_mod}
+use Rattle.std.specs.List.{between}
 use Rattle.std.specs.Int.{int_min, int_max}
 use Rattle.std.proofs.lemmas.List.Edits.{length-between, get_or-between}
 use Rattle.scan.specs.Landing.{Landing}
@@ -26,35 +27,31 @@ slab_is L j s below number start stride rise us ws crosses heights U W =
       heights = (ap length heights ∙ W.0, λ i h. ap (λ es. slice_index_or es i (pos 0)) heights ∙ W.1 i h ∙ ap (λ n. L.W n i) (sym number));
     }
 
-module _ (L : Landing) (first count stride width : ℕ) (columns rows : List ℤ) (bo : BlockOf L first count stride width columns rows) (d : ℕ) (below : d < count) where
+module _ {L : Landing} {first count : ℕ} {columns rows : List ℤ} (bo : BlockOf L first count columns rows) (d : ℕ) (below : d < count) where
+  abbrev width : ℕ
+  width = L.rows + 1
+
   abbrev part : List ℤ
-  part = take ((d * width + width) - d * width) (drop (d * width) rows)
+  part = between (d * width) (d * width + width) rows
 
   pub rows_end : d * width + width ≤ length rows
   rows_end = let e = row_end d count width below in let f = bo.rows_are.0 in omega arith
 
-  wide : (d * width + width) - d * width ≡ width
-  wide = omega arith
-
-  part_length : length part ≡ width
-  part_length = length-between rows (d * width) (d * width + width) rows_end ∙ wide
-
-  part_edge : (m : ℕ) → m < width → slice_index_or part m (pos 0) ≡ L.T (first + d) m
-  part_edge m h =
-      let e = wide in
-      let inside : d * width + m < count * width = let r = row_end d count width below in omega arith in
-      get_or-between rows (d * width) (d * width + width) m (pos 0) (omega arith)
-      ∙ bo.rows_are.1 (d * width + m) inside
-      ∙ ap₂ (λ k n. L.T (first + k) n) (digits_div d h) (digits_mod d h)
-
   -- the part of the table that is one column's
-  pub part_tabled : Tabled part (L.rows + 1) (L.T (first + d))
-  part_tabled = (part_length ∙ bo.width_is, λ m h. let wide = bo.width_is in part_edge m (omega arith))
+  pub part_tabled : Tabled part width (L.T (first + d))
+  part_tabled = (
+    length-between rows (d * width) (d * width + width) rows_end ∙ omega arith,
+    λ m h.
+        let inside : d * width + m < count * width = let r = row_end d count width below in omega arith in
+        get_or-between rows (d * width) (d * width + width) m (pos 0) (omega arith)
+        ∙ bo.rows_are.1 (d * width + m) inside
+        ∙ ap₂ (λ k n. L.T (first + k) n) (digits_div d h) (digits_mod d h),
+  )
 
   pub part_some : 0 < length part
   part_some = let e = part_tabled.0 in omega arith
 
-  pub block_column : (c : Column) → c.number ≡ first + d → c.cells.start ≡ c.number → c.cells.stride ≡ stride
+  pub block_column : (c : Column) → c.number ≡ first + d → c.cells.start ≡ c.number → c.cells.stride ≡ L.columns
       → c.over.low ≡ int_min (slice_index_or columns d (pos 0)) (slice_index_or columns (d + 1) (pos 0))
       → c.over.high ≡ int_max (slice_index_or columns d (pos 0)) (slice_index_or columns (d + 1) (pos 0))
       → c.cells.edges.at.now ≡ part → ColumnOf L c
@@ -66,7 +63,7 @@ module _ (L : Landing) (first count stride width : ℕ) (columns rows : List ℤ
       record {
         below = omega arith;
         start = is_start;
-        stride = is_stride ∙ bo.stride_is;
+        stride = is_stride;
         low = low ∙ ap₂ int_min one other;
         high = high ∙ ap₂ int_max one other;
         rows = (ap length is_rows ∙ part_tabled.0, λ m h. ap (λ es. slice_index_or es m (pos 0)) is_rows ∙ part_tabled.1 m h ∙ ap (λ k. L.T k m) (sym number));

@@ -104,13 +104,11 @@ pub record CellLine (s : Slab) (c : Column) (l : ℕ) (strip : Strip) : Type 0 w
   pub low : strip.over.low ≡ slice_index_or s.heights.at.now l (pos 0)
   pub high : strip.over.high ≡ slice_index_or s.heights.at.now (l + 1) (pos 0)
 
--- The numbers and tables of some columns side by side: `columns` holds their S edges, and `rows` their T edges, `width` for each.
-pub record BlockOf (L : Landing) (first count stride width : ℕ) (columns rows : List ℤ) : Type 0 where
+-- The numbers and tables of some columns side by side: `columns` holds their S edges, and `rows` the T edges of one after another.
+pub record BlockOf (L : Landing) (first count : ℕ) (columns rows : List ℤ) : Type 0 where
   pub below : first + count ≤ L.columns
-  pub stride_is : stride ≡ L.columns
-  pub width_is : width ≡ L.rows + 1
   pub columns_are : Tabled columns (count + 1) (λ i. L.S (first + i))
-  pub rows_are : Tabled rows (count * width) (λ i. L.T (first + i / width) (i % width))
+  pub rows_are : Tabled rows (count * (L.rows + 1)) (λ i. L.T (first + i / (L.rows + 1)) (i % (L.rows + 1)))
 
 -- A call that is not refused: where the view's cells stand in the working store, and how the view lands.
 pub record Answered (scan : Scan) (view volume working start cells : ℕ) (L : Landing) : Type 0 where

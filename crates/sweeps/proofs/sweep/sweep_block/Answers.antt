@@ -10,17 +10,15 @@ invariant_of-block g c =
     let columns = c.filled.result.now in
     let rows = c.filled-2.result.now in
     let across : length columns ≡ a.count + 1 = search rules in
-    let down : length rows ≡ a.count * (c.rows.result + 1) = search rules in
-    let tables : BlockOf L a.first a.count c.columns.result (c.rows.result + 1) columns rows =
+    let down : length rows ≡ a.count * (L.rows + 1) = search rules in
+    let tables : BlockOf L a.first a.count columns rows =
     record {
       below = c.requires.below;
-      stride_is = c.columns.ensures;
-      width_is = let e = c.rows.ensures in omega arith;
       columns_are = (across, λ i h. let below : i < length columns = omega arith in search (rules, c.filled.ensures.edges i below));
       rows_are = (down, λ i h. let below : i < length rows = omega arith in search (rules, c.filled-2.ensures.edges i below));
     } in
     let same : a.count ≡ length columns - 1 = omega arith in
-    record { tables = subst (λ n. BlockOf L a.first n c.columns.result (c.rows.result + 1) columns rows) same tables }
+    record { tables = subst (λ n. BlockOf L a.first n columns rows) same tables }
 
 pub returns : goal.returns
 returns g c =
