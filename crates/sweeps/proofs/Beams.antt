@@ -10,7 +10,7 @@ use Rattle.scan.specs.Landing.{Landing, Sound, by_slabs, voxels, cells, cross_ov
 use Rattle.sweeps.specs.Runs.{share, Rising}
 use Rattle.sweeps.specs.Strips.{laid, strip_cells, strip_share, Inside}
 use Rattle.sweeps.specs.Tables.{Tabled}
-use Rattle.sweeps.specs.Passes.{weights, Lengths, Placed, slab_start, slab_stride, rise, beam_weight, column_weight, SlabOf, ColumnOf, Meets, VoxelLine, CellLine}
+use Rattle.sweeps.specs.Passes.{Lengths, Placed, slab_start, slab_stride, rise, beam_weight, column_weight, SlabOf, ColumnOf, Meets, VoxelLine, CellLine}
 use Rattle.sweeps.specs.declared.pass.Way.{Way}
 use Rattle.sweeps.specs.declared.pass.Way.TheVariants.{Forward, Back}
 use Rattle.sweeps.specs.declared.pass.Slab.{Slab}
@@ -180,15 +180,6 @@ module _ (L : Landing) (slab : Slab) (column : Column) (sl : SlabOf L slab) (co 
   pub beam_is : (l : ℕ) → l < L.heights → (s t : Strip) → VoxelLine slab column l s → CellLine slab column l t → (x c : ℕ) → strip_share s x * strip_share t c ≡ beam_weight L j k l x c
   unfolding beam_weight
   beam_is l lh s t vs ct x c = ap₂ (λ a b. a * b) (voxels_laid l lh s vs x) (cells_laid l lh t ct c)
-
--- the same weights whichever way
-pub weights_same : (way : Way) (M N : ℕ → ℕ → ℕ) → ((x c : ℕ) → M x c ≡ N x c) → (q p : ℕ) → weights way M q p ≡ weights way N q p
-weights_same Forward M N h q p = h q p
-weights_same Back M N h q p = h p q
-
-pub weights_none : (way : Way) (M : ℕ → ℕ → ℕ) → ((x c : ℕ) → M x c ≡ 0) → (q p : ℕ) → weights way M q p ≡ 0
-weights_none Forward M h q p = h q p
-weights_none Back M h q p = h p q
 
 pub placed : (way : Way) (L : Landing) (from to : ℕ) (s t : Strip) → Lengths way L from to → Inside s (voxels L) → Inside t (cells L) → Placed way s t from to
 placed Forward L from to s t z a b = (rw z.0 a, rw z.1 b)

@@ -74,7 +74,7 @@ module _ {V : Type 0} {o : Ops V} (laws : Laws o) (scan : Scan) (view : ℕ) (f 
       renamed (λ a m. length ys ≡ length (view_part a m working) → Gained o f volume (weights Forward (weight L)) (view_part a m working) ys
       → put_mid a ((a + m) - a) working ys ≡ forward o s view f volume working)
       (λ len' gained'. forward_is laws s view f volume working accepted.known accepted.voxels accepted.cells ys len'
-      (gained_same laws f volume (weights Forward (weight L)) (s.weight view) (view_part (view * panel_of scan) (panel_of scan) working) ys (λ q p h k. weight_is q p) gained'))
+      (gained_same laws (λ q p h k. weight_is q p) gained'))
       len gained
       ∙ kept (forward o s view f volume working) working
 
@@ -83,6 +83,6 @@ module _ {V : Type 0} {o : Ops V} (laws : Laws o) (scan : Scan) (view : ℕ) (f 
   back_leaves new len gained =
       renamed (λ a m. Gained o f (view_part a m working) (weights Back (weight L)) volume new → new ≡ back o s view f working volume)
       (λ gained'. back_is laws s view f volume working accepted.known accepted.voxels accepted.cells new len
-      (gained_same laws f (view_part (view * panel_of scan) (panel_of scan) working) (weights Back (weight L)) (λ c x. s.weight view x c) volume new (λ q p h k. weight_is p q) gained'))
+      (gained_same laws (λ q p h k. weight_is p q) gained'))
       gained
       ∙ kept (back o s view f working volume) volume

@@ -3,10 +3,9 @@ use Rattle.std.proofs.Common.{◌≡◌, ℕ, ◌+◌, ◌*◌, ◌<◌, ◌≤�
 use Rattle.std.proofs.lemmas.List.{get_or-set_same, get_or-set_other}
 use Rattle.std.proofs.lemmas.Bool.{eq-eqb, ne_eqb, cond-true, cond-false, cases_eq}
 use Rattle.values.specs.Laws.{Ops, Laws}
-use Rattle.values.specs.Sums.{sum}
 use Rattle.values.proofs.Sums.{sum_more, sum_same, sum_none, sum_plus, sum_past, sum_only, multiple_add, multiple_none, plus_none}
 use Rattle.sweeps.specs.Stores.{at}
-use Rattle.sweeps.specs.Strips.{laid}
+use Rattle.sweeps.specs.Strips.{laid, total}
 use Rattle.sweeps.proofs.Naturals.{naturals_laws}
 
 module _ (start stride : ℕ) (w : ℕ → ℕ) where
@@ -47,7 +46,7 @@ module _ (start stride : ℕ) (w : ℕ → ℕ) where
 module _ {V : Type 0} {o : Ops V} (laws : Laws o) (start stride : ℕ) (w : ℕ → ℕ) (xs : List V) where
   -- what the first n cells of the strip hold, each taken as often as its number says
   abbrev gathered : ℕ → V
-  gathered n = sum o (length xs) (λ q. o.multiple (at o xs q) (laid start stride w n q))
+  gathered n = total o xs (laid start stride w n)
 
   pub gather_none : (n : ℕ) → ((i : ℕ) → i < n → w i ≡ 0) → gathered n ≡ o.zero
   gather_none n h = sum_none laws (length xs) _ (λ q l. multiple_none laws (at o xs q) _ (laid_zero start stride w n q h))
@@ -55,12 +54,11 @@ module _ {V : Type 0} {o : Ops V} (laws : Laws o) (start stride : ℕ) (w : ℕ 
   pub gather_more : (n : ℕ) (all x : V) → start + n * stride < length xs → all ≡ gathered n → x ≡ o.multiple (at o xs (start + n * stride)) (w n) → o.plus all x ≡ gathered (n + 1)
   gather_more n all x lt e f =
       let k = start + n * stride in
-      let term : ℕ → V = λ q. o.multiple (at o xs q) (here start stride w n q) in
-      let alone : sum o (length xs) term ≡ o.multiple (at o xs k) (w n) =
-      sum_only laws (length xs) k term lt (λ q l ne. multiple_none laws (at o xs q) _ (here_miss start stride w n q ne))
+      let alone : total o xs (here start stride w n) ≡ o.multiple (at o xs k) (w n) =
+      sum_only laws (length xs) k _ lt (λ q l ne. multiple_none laws (at o xs q) _ (here_miss start stride w n q ne))
       ∙ ap (o.multiple (at o xs k)) (here_hit start stride w n k refl) in
       ap₂ o.plus e (f ∙ sym alone)
-      ∙ sym (sum_plus laws (length xs) _ term)
+      ∙ sym (sum_plus laws (length xs) _ _)
       ∙ sum_same laws (length xs) _ _ (λ q l.
       sym (multiple_add laws (at o xs q) (laid start stride w n q) (here start stride w n q))
       ∙ ap (o.multiple (at o xs q)) (sym (laid_more start stride w n q)))

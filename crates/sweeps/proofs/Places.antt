@@ -105,7 +105,7 @@ module _ {V : Type 0} {o : Ops V} (laws : Laws o) (s : System) (v : ℕ) (f : V)
       let size = length_part o start s.cells working view_within in
       ap (at o (put_mid start ((start + s.cells) - start) working ys)) (sym c)
       ∙ put_in o start s.cells working view_within ys len (i - start) below
-      ∙ gained (i - start) (omega arith)
+      ∙ gained.gain (i - start) (omega arith)
       ∙ ap₂ (λ a n. o.plus a (o.times f (sum o n (λ x. o.multiple (at o volume x) (s.weight v x (i - start))))))
       (at_part o start s.cells working view_within (i - start) below ∙ ap (at o working) c) voxels
       ∙ sym (cond-true _ _ _ (in_view_at i ge lt)))
@@ -120,6 +120,6 @@ module _ {V : Type 0} {o : Ops V} (laws : Laws o) (s : System) (v : ℕ) (f : V)
       is_built o s.voxels _ new (len ∙ voxels)
       (λ x l.
       let size = length_part o start s.cells working view_within in
-      gained x (omega arith)
+      gained.gain x (omega arith)
       ∙ ap (λ n. o.plus (at o volume x) (o.times f (sum o n (λ c. o.multiple (at o cells_of c) (s.weight v x c))))) size
       ∙ ap (λ u. o.plus (at o volume x) (o.times f u)) (sum_same laws s.cells _ _ (λ c k. ap (λ a. o.multiple a (s.weight v x c)) (at_part o start s.cells working view_within c k))))

@@ -1,5 +1,5 @@
 -- The weights of all slabs, columns and heights together are the weights of voxels and cells.
-use Rattle.std.proofs.Common.{◌≡◌, ℕ, ◌+◌, ◌*◌, ◌/◌, ◌%◌, ◌<◌, ◌≤◌, ◌≢◌, sym, ap, ◌∙◌, ap₂, mod-lt, div-lt_iff_lt-mul, mul-zero, div-add-mod', zero-mul, arith}
+use Rattle.std.proofs.Common.{◌≡◌, ℕ, List, length, ◌+◌, ◌*◌, ◌/◌, ◌%◌, ◌<◌, ◌≤◌, ◌≢◌, sym, ap, ◌∙◌, ap₂, mod-lt, div-lt_iff_lt-mul, mul-zero, div-add-mod', zero-mul, arith}
 use lib.Arith.{digits_div, digits_mod}
 use Rattle.geometry.specs.declared.direction.SlabAxis.{SlabAxis}
 use Rattle.geometry.specs.declared.direction.SlabAxis.TheVariants.{X, Y}
@@ -7,11 +7,13 @@ use Rattle.values.specs.Sums.{sum}
 use Rattle.values.proofs.Sums.{sum_none, sum_only, sum_swap, sum_split}
 use Rattle.scan.specs.Landing.{Landing, Sound, by_slabs, nx, ny, voxels, cells, slab_of, cross_of, height_of, cross_overlap, height_overlap, weight}
 use Rattle.sweeps.specs.Strips.{naturals, laid}
-use Rattle.sweeps.specs.Passes.{slab_start, slab_stride, rise, beam_weight, column_weight, slab_weight, block_weight}
+use Rattle.values.specs.Laws.{Ops, Laws}
+use Rattle.sweeps.specs.declared.pass.Pass.{Pass}
+use Rattle.sweeps.specs.Passes.{Sized, Swept, slab_start, slab_stride, rise, beam_weight, column_weight, slab_weight, block_weight}
 use Rattle.sweeps.proofs.Naturals.{naturals_laws}
 use Rattle.sweeps.proofs.Beams.{voxel_place}
 use Rattle.sweeps.proofs.Laid.{laid_none, laid_only, here_miss}
-use Rattle.sweeps.proofs.Levels.{summed}
+use Rattle.sweeps.proofs.Levels.{summed, summed_all, swept_joined, swept_within}
 
 -- what a voxel and a cell have of their weight in column k, over all slabs
 abbrev pub whole_column : Landing → ℕ → ℕ → ℕ → ℕ
@@ -170,3 +172,12 @@ module _ (L : Landing) (sound : Sound L) (x c : ℕ) (xv : x < voxels L) (cc : c
       ∙ sum_only naturals_laws L.slabs j' (λ j. column_weight L j k' x c) (slab_below L.slabs L.crosses x L.along sound.slabs.0 sound.crosses.0) other_slab
       ∙ sum_only naturals_laws L.heights l' (λ l. beam_weight L j' k' l x c) height_below (λ l lh ne. beam_zero_left j' k' l (A_height k' l ne))
       ∙ ap₂ (λ a b. a * b) (A_here k') (B_here j' l')
+
+module _ {V View : Type 0} {o : Ops V} (laws : Laws o) {pass : Pass V View} (L : Landing) {old : List V} where
+  -- a sweep of the columns before a block, and one of the block
+  pub block_swept : (first n : ℕ) {mid new : List V} → length mid ≡ length old → Swept o pass (summed (whole_column L) first) old mid → Swept o pass (block_weight L first n) mid new → Swept o pass (summed (whole_column L) (first + n)) old new
+  block_swept first n len = swept_joined laws len (block_more L first n)
+
+  -- a sweep of all columns
+  pub whole_swept : Sound L → Sized L pass (length old) → {n : ℕ} {new : List V} → n ≡ L.columns → Swept o pass (summed (whole_column L) n) old new → Swept o pass (weight L) old new
+  whole_swept sound sized end s = swept_within laws L sized (whole_weight L sound) (summed_all laws (whole_column L) end s)

@@ -30,8 +30,8 @@ abbrev pub Sized : {V View : Type 0} → Landing → Pass V View → ℕ → Typ
 Sized L pass to = Lengths pass.way L (length pass.from.now) to
 
 -- Each target place has gained what a pass brings it by the weight M of a voxel and a cell.
-abbrev pub Swept : {V View : Type 0} → Ops V → Pass V View → (ℕ → ℕ → ℕ) → List V → List V → Type 0
-Swept o pass M old new = Gained o pass.factor pass.from.now (weights pass.way M) old new
+pub record Swept {V View : Type 0} (o : Ops V) (pass : Pass V View) (M : ℕ → ℕ → ℕ) (old new : List V) : Type 0 where
+  pub gained : Gained o pass.factor pass.from.now (weights pass.way M) old new
 
 -- The strips of voxels and of cells lie in the source and the target.
 abbrev pub Placed : Way → Strip → Strip → ℕ → ℕ → Type 0

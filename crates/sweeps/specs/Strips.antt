@@ -26,8 +26,10 @@ strip_share s p = laid s.line.start s.line.stride (share s.line.edges.at.now s.o
 abbrev pub Inside : Strip → ℕ → Type 0
 Inside s n = (i : ℕ) → i < strip_cells s → s.line.start + i * s.line.stride < n
 
--- Each place p of a store has gained f times the sum over all places q of another of the multiple of its value by M q p.
-abbrev pub Gained : {V : Type 0} → Ops V → V → List V → (ℕ → ℕ → ℕ) → List V → List V → Type 0
-Gained o f from M old new =
-    (p : ℕ) → p < length old
-    → at o new p ≡ o.plus (at o old p) (o.times f (sum o (length from) (λ q. o.multiple (at o from q) (M q p))))
+-- The sum over all places q of a store of the multiple of its value by w q.
+abbrev pub total : {V : Type 0} → Ops V → List V → (ℕ → ℕ) → V
+total o from w = sum o (length from) (λ q. o.multiple (at o from q) (w q))
+
+-- Each place p of a store has gained f times the total of another by the weights M q p.
+pub record Gained {V : Type 0} (o : Ops V) (f : V) (from : List V) (M : ℕ → ℕ → ℕ) (old new : List V) : Type 0 where
+  pub gain : (p : ℕ) → p < length old → at o new p ≡ o.plus (at o old p) (o.times f (total o from (λ q. M q p)))

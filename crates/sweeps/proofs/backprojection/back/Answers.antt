@@ -17,5 +17,5 @@ returns g c =
     let x = c.in_ok-call.ensures in
     record {
       answer = sym x.accepted;
-      volume = back_leaves g.met.V.Value.lawful (plan_of a.plan.now) a.view a.factor a.volume.now a.working.now _ _ _ x c.sweep.new.to c.sweep.auto.to c.sweep.ensures;
+      volume = back_leaves g.met.V.Value.lawful (plan_of a.plan.now) a.view a.factor a.volume.now a.working.now _ _ _ x c.sweep.new.to c.sweep.auto.to c.sweep.ensures.gained;
     }

@@ -19,12 +19,15 @@ carry-requires-in-Back g c =
 pub returns-in-Forward : goal.returns-in-Forward
 returns-in-Forward g c =
     let a = c.args in
-    gained_same g.met.V.Value.lawful a.pass.now.factor a.pass.now.from.now (λ q p. strip_share a.voxels q * strip_share a.cells p) _ a.to.now c.carry.new.to
-    (λ q p h k. sym (ap (λ way. weights way (λ x c'. strip_share a.voxels x * strip_share a.cells c') q p) c.in-Forward.is)) c.carry.ensures
+    record {
+      gained = gained_same g.met.V.Value.lawful (λ q p h k. sym (ap (λ way. weights way (λ x c'. strip_share a.voxels x * strip_share a.cells c') q p) c.in-Forward.is)) c.carry.ensures;
+    }
 
 pub returns-in-Back : goal.returns-in-Back
 returns-in-Back g c =
     let a = c.args in
-    gained_same g.met.V.Value.lawful a.pass.now.factor a.pass.now.from.now (λ q p. strip_share a.cells q * strip_share a.voxels p) _ a.to.now c.carry-in-Back.new.to
-    (λ q p h k. mul_comm (strip_share a.cells q) (strip_share a.voxels p)
-    ∙ sym (ap (λ way. weights way (λ x c'. strip_share a.voxels x * strip_share a.cells c') q p) c.in-Back.is)) c.carry-in-Back.ensures
+    record {
+      gained = gained_same g.met.V.Value.lawful
+          (λ q p h k. mul_comm (strip_share a.cells q) (strip_share a.voxels p)
+          ∙ sym (ap (λ way. weights way (λ x c'. strip_share a.voxels x * strip_share a.cells c') q p) c.in-Back.is)) c.carry-in-Back.ensures;
+    }

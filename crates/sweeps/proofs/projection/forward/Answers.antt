@@ -17,5 +17,5 @@ returns g c =
     let x = c.in_ok-call.ensures in
     record {
       answer = sym x.accepted;
-      working = forward_leaves g.met.V.Value.lawful (plan_of a.plan.now) a.view a.factor a.volume.now a.working.now _ _ _ x c.sweep.new.to c.sweep.auto.to c.sweep.ensures;
+      working = forward_leaves g.met.V.Value.lawful (plan_of a.plan.now) a.view a.factor a.volume.now a.working.now _ _ _ x c.sweep.new.to c.sweep.auto.to c.sweep.ensures.gained;
     }

@@ -27,5 +27,4 @@ returns g c =
     let columns = c.filled.result.now in
     let across : length columns ≡ a.count + 1 = search rules in
     let same : length columns - 1 ≡ a.count = omega arith in
-    swept_as g.met.V.Value.lawful a.pass.now a.to.now (block_weight L a.first (length columns - 1)) (block_weight L a.first a.count) c.sweep.new.to
-    (λ x k. ap (λ n. block_weight L a.first n x k) same) c.sweep.ensures
+    swept_as g.met.V.Value.lawful (λ x k. ap (λ n. block_weight L a.first n x k) same) c.sweep.ensures

@@ -1,6 +1,4 @@
-use Rattle.std.proofs.Common.{◌*◌, length}
-use Rattle.sweeps.specs.Strips.{strip_share}
-use Rattle.sweeps.specs.Passes.{beam_weight}
+use Rattle.std.proofs.Common.{length}
 use Rattle.sweeps.proofs.Beams.{voxels_inside, cells_inside, cells_none, beam_is, placed}
 use Rattle.sweeps.proofs.Levels.{swept_as, swept_none}
 use Rattle.sweeps.proofs.crossing.Crossing.sweep_height.Goals as goal
@@ -17,12 +15,12 @@ pub returns-then-cells : goal.returns-then-cells
 returns-then-cells g c =
     let x = c.args.self.now in
     let L = g.L.Landed.landing x.pass.now.view.now in
-    swept_as g.met.V.Value.lawful x.pass.now c.args.to.now (λ a b. strip_share c.voxels_at.result a * strip_share c.cells_at-cells.result b) _ c.exchange.new.to
+    swept_as g.met.V.Value.lawful
     (beam_is L x.slab x.column x.slab_of x.column_of c.args.height c.requires.height c.voxels_at.result c.cells_at-cells.result c.voxels_at.ensures c.cells_at-cells.ensures) c.exchange.ensures
 
 pub returns-else-cells : goal.returns-else-cells
 returns-else-cells g c =
     let x = c.args.self.now in
     let L = g.L.Landed.landing x.pass.now.view.now in
-    swept_none g.met.V.Value.lawful x.pass.now c.args.to.now (beam_weight L x.slab.number x.column.number c.args.height)
+    swept_none g.met.V.Value.lawful
     (cells_none L x.slab x.column x.slab_of x.column_of c.args.height c.requires.height c.cells_at-cells.result c.cells_at-cells.ensures c.if-cells.false)
