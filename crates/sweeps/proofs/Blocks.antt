@@ -1,18 +1,13 @@
 -- Columns side by side, and the tables of a block.
-use Rattle.std.proofs.Common.{◌≡◌, ℕ, ◌+◌, ◌*◌, ◌<◌, ◌≤◌, List, length, slice_index_or, ℤ, pos, sym, ap, ◌∙◌, ap₂, mul-le-mul_right, add-mul, one-mul, arith}
+use Rattle.std.proofs.Common.{◌≡◌, ℕ, ◌+◌, ◌*◌, ◌<◌, List, length, slice_index_or, ℤ, pos, sym, ap, ◌∙◌, ap₂, arith}
 use lib.Arith.{digits_div, digits_mod}
-use Rattle.std.specs.List.{between}
 use Rattle.std.specs.Int.{int_min, int_max}
-use Rattle.std.proofs.lemmas.List.Edits.{length-between, get_or-between}
+use Rattle.sweeps.proofs.Parts.{row_end, part, length_part, at_part}
 use Rattle.scan.specs.Landing.{Landing}
 use Rattle.sweeps.specs.Tables.{Tabled}
 use Rattle.sweeps.specs.Passes.{slab_start, slab_stride, rise, SlabOf, ColumnOf, BlockOf}
 use Rattle.sweeps.specs.declared.pass.Column.{Column}
 use Rattle.sweeps.specs.declared.pass.Slab.{Slab}
-
--- the end of row m of a table
-pub row_end : (m rows columns : ℕ) → m < rows → m * columns + columns ≤ rows * columns
-row_end m rows columns h = let more : m + 1 ≤ rows = omega arith in omega (arith, mul-le-mul_right columns more, add-mul m 1 columns, one-mul columns)
 
 -- the numbers and tables of a slab, from those of its number
 pub slab_is : (L : Landing) (j : ℕ) (s : Slab) → j < L.slabs → s.number ≡ j → s.lowest.start ≡ slab_start L j → s.lowest.stride ≡ slab_stride L → s.rise ≡ rise L
@@ -31,30 +26,25 @@ module _ {L : Landing} {first count : ℕ} {columns rows : List ℤ} (bo : Block
   abbrev width : ℕ
   width = L.rows + 1
 
-  abbrev part : List ℤ
-  part = between (d * width) (d * width + width) rows
-
-  pub rows_end : d * width + width ≤ length rows
-  rows_end = let e = row_end d count width below in let f = bo.rows_are.0 in omega arith
-
   -- the part of the table that is one column's
-  pub part_tabled : Tabled part width (L.T (first + d))
-  part_tabled = (
-    length-between rows (d * width) (d * width + width) rows_end ∙ omega arith,
-    λ m h.
-        let inside : d * width + m < count * width = let r = row_end d count width below in omega arith in
-        get_or-between rows (d * width) (d * width + width) m (pos 0) (omega arith)
-        ∙ bo.rows_are.1 (d * width + m) inside
-        ∙ ap₂ (λ k n. L.T (first + k) n) (digits_div d h) (digits_mod d h),
-  )
+  abbrev edges : List ℤ
+  edges = part (d * width) width rows
 
-  pub part_some : 0 < length part
+  pub part_tabled : Tabled edges width (L.T (first + d))
+  part_tabled =
+      let e = row_end d count width below in
+      let f = bo.rows_are.0 in (
+        length_part (d * width) width rows (omega arith),
+        λ m h. at_part (d * width) width rows (pos 0) m h ∙ bo.rows_are.1 (d * width + m) (omega arith) ∙ ap₂ (λ k n. L.T (first + k) n) (digits_div d h) (digits_mod d h),
+      )
+
+  pub part_some : 0 < length edges
   part_some = let e = part_tabled.0 in omega arith
 
   pub block_column : (c : Column) → c.number ≡ first + d → c.cells.start ≡ c.number → c.cells.stride ≡ L.columns
       → c.over.low ≡ int_min (slice_index_or columns d (pos 0)) (slice_index_or columns (d + 1) (pos 0))
       → c.over.high ≡ int_max (slice_index_or columns d (pos 0)) (slice_index_or columns (d + 1) (pos 0))
-      → c.cells.edges.at.now ≡ part → ColumnOf L c
+      → c.cells.edges.at.now ≡ edges → ColumnOf L c
   block_column c number is_start is_stride low high is_rows =
       let one : slice_index_or columns d (pos 0) ≡ L.S c.number = bo.columns_are.1 d (omega arith) ∙ ap L.S (sym number) in
       let next : first + (d + 1) ≡ c.number + 1 = omega arith in
