@@ -18,8 +18,8 @@ slab_is L j s below number start stride rise us ws crosses heights U W =
       start = start ∙ ap (slab_start L) (sym number);
       stride = stride;
       rise = rise;
-      crosses = (ap length crosses ∙ U.0, λ i h. ap (λ es. slice_index_or es i (pos 0)) crosses ∙ U.1 i h ∙ ap (λ n. L.U n i) (sym number));
-      heights = (ap length heights ∙ W.0, λ i h. ap (λ es. slice_index_or es i (pos 0)) heights ∙ W.1 i h ∙ ap (λ n. L.W n i) (sym number));
+      crosses = rw (crosses, number) U;
+      heights = rw (heights, number) W;
     }
 
 module _ {L : Landing} {first count : ℕ} {columns rows : List ℤ} (bo : BlockOf L first count columns rows) (d : ℕ) (below : d < count) where
@@ -56,5 +56,5 @@ module _ {L : Landing} {first count : ℕ} {columns rows : List ℤ} (bo : Block
         stride = is_stride;
         low = low ∙ ap₂ int_min one other;
         high = high ∙ ap₂ int_max one other;
-        rows = (ap length is_rows ∙ part_tabled.0, λ m h. ap (λ es. slice_index_or es m (pos 0)) is_rows ∙ part_tabled.1 m h ∙ ap (λ k. L.T k m) (sym number));
+        rows = rw (is_rows, number) part_tabled;
       }

@@ -50,11 +50,17 @@ slab_stride L = by_slabs L.along (nx L) 1
 abbrev pub rise : Landing → ℕ
 rise L = ny L * nx L
 
+-- How far voxel x overlaps column k, if it stands in slab j at height l; else 0.
+abbrev pub voxel_share : Landing → ℕ → ℕ → ℕ → ℕ → ℕ
+voxel_share L j k l x = laid (slab_start L j + l * rise L) (slab_stride L) (λ i. cross_overlap L j i k) L.crosses x
+
+-- How far cell c overlaps height l of slab j, if it stands in column k; else 0.
+abbrev pub cell_share : Landing → ℕ → ℕ → ℕ → ℕ → ℕ
+cell_share L j k l c = laid k L.columns (λ m. height_overlap L j l k m) L.rows c
+
 -- What voxel x and cell c have of their weight where slab j, column k and height l meet.
 unfoldable pub beam_weight : Landing → ℕ → ℕ → ℕ → ℕ → ℕ → ℕ
-beam_weight L j k l x c =
-    laid (slab_start L j + l * rise L) (slab_stride L) (λ i. cross_overlap L j i k) L.crosses x
-    * laid k L.columns (λ m. height_overlap L j l k m) L.rows c
+beam_weight L j k l x c = voxel_share L j k l x * cell_share L j k l c
 
 -- The same over all heights.
 unfoldable pub column_weight : Landing → ℕ → ℕ → ℕ → ℕ → ℕ

@@ -18,13 +18,25 @@ laid start stride w n p = sum naturals n (λ i. if p == start + i * stride then 
 abbrev pub strip_cells : Strip → ℕ
 strip_cells s = length s.line.edges.at.now - 1
 
+-- The place of a strip's cell i in the store.
+abbrev pub place : Strip → ℕ → ℕ
+place s i = s.line.start + i * s.line.stride
+
+-- How far a strip's cell i overlaps its stretch.
+abbrev pub cell_overlap : Strip → ℕ → ℕ
+cell_overlap s i = share s.line.edges.at.now s.over.low s.over.high i
+
+-- What the place p of the store gets of the overlaps of a strip's first n cells.
+abbrev pub first_share : Strip → ℕ → ℕ → ℕ
+first_share s n p = laid s.line.start s.line.stride (cell_overlap s) n p
+
 -- How far the strip's cell at place p of the store overlaps its stretch.
 abbrev pub strip_share : Strip → ℕ → ℕ
-strip_share s p = laid s.line.start s.line.stride (share s.line.edges.at.now s.over.low s.over.high) (strip_cells s) p
+strip_share s p = first_share s (strip_cells s) p
 
 -- The strip lies in a store of n places.
 abbrev pub Inside : Strip → ℕ → Type 0
-Inside s n = (i : ℕ) → i < strip_cells s → s.line.start + i * s.line.stride < n
+Inside s n = (i : ℕ) → i < strip_cells s → place s i < n
 
 -- The sum over all places q of a store of the multiple of its value by w q.
 abbrev pub total : {V : Type 0} → Ops V → List V → (ℕ → ℕ) → V

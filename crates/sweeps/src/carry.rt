@@ -1,7 +1,6 @@
 ghost use Rattle.std.specs.Prelude.{◌≡◌, ℕ, ◌*◌, ◌<◌, length};
 ghost use Rattle.sweeps.specs.Stores.{at};
-ghost use Rattle.sweeps.specs.Runs.{share};
-ghost use Rattle.sweeps.specs.Strips.{strip_cells, strip_share, Inside, total, Gained};
+ghost use Rattle.sweeps.specs.Strips.{strip_cells, cell_overlap, strip_share, Inside, total, Gained};
 
 use crate::strip::Strip;
 use values::value::Value;
@@ -11,7 +10,7 @@ impl Strip<'_> {
     // How far a cell overlaps the stretch.
     fn share(self, cell: usize) -> u64
         requires { cell < strip_cells self }
-        ensures { result ≡ share self.entry.line.edges.at.now self.entry.over.low self.entry.over.high cell }
+        ensures { result ≡ cell_overlap self.entry cell }
     {
         self.line.edges.stretch(cell).overlap(self.over)
     }
