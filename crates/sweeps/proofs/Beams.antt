@@ -1,6 +1,6 @@
 -- The line of voxels and the line of cells that meet at one slab, column and height.
 use Rattle.std.proofs.Common.{◌≡◌, ℕ, ◌+◌, ◌*◌, ◌^◌, ◌<◌, ◌≤◌, if◌then◌else◌, ◌==◌, List, length, slice_index_or, ℤ, pos, ◌≤ℤ◌, sym, ap, ◌∙◌, subst, ap₂, ⊎_elim, mul_assoc, add-mul, mul-le-mul, mul-zero, zero-mul, mul-one, arith}
-use lib.Arith.{digits_lt}
+use Rattle.std.proofs.Math.Arith.{digits_lt}
 use Rattle.std.proofs.lemmas.Bool.{cases_lt}
 use Rattle.geometry.specs.Overlap.{overlap}
 use Rattle.geometry.specs.declared.direction.SlabAxis.{SlabAxis}

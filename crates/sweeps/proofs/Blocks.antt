@@ -1,6 +1,6 @@
 -- Columns side by side, and the tables of a block.
 use Rattle.std.proofs.Common.{◌≡◌, ℕ, ◌+◌, ◌*◌, ◌<◌, List, length, slice_index_or, ℤ, pos, sym, ap, ◌∙◌, ap₂, arith}
-use lib.Arith.{digits_div, digits_mod}
+use Rattle.std.proofs.Math.Arith.{digits_div, digits_mod}
 use Rattle.std.specs.Int.{int_min, int_max}
 use Rattle.sweeps.proofs.Parts.{row_end, part, length_part, at_part}
 use Rattle.scan.specs.Landing.{Landing}

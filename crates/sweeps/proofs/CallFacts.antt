@@ -18,12 +18,12 @@ use Rattle.sweeps.proofs.Places.{forward_is, back_is}
 
 -- what holds where a call on a view is not refused
 module _ (s : System) (view volume working : ℕ) where
-  pub record Accepted : Type 0 where
-    pub known : view < s.views
-    pub voxels : volume ≡ s.voxels
-    pub cells : working ≡ places s
+  record Accepted : Type 0 where
+    known : view < s.views
+    voxels : volume ≡ s.voxels
+    cells : working ≡ places s
 
-  pub from_accepted : call_check s view volume working ≡ None → Accepted
+  from_accepted : call_check s view volume working ≡ None → Accepted
   unfolding call_check
   from_accepted e = record { known = grind arith; voxels = grind arith; cells = grind arith }
 
@@ -32,11 +32,11 @@ by_axis scan X a b = refl
 by_axis scan Y a b = refl
 
 -- the volume has the same voxels, whichever axis the slabs are along
-pub view_voxels : (scan : Scan) (view : ℕ) → voxels (landing scan view) ≡ voxels_of scan
+view_voxels : (scan : Scan) (view : ℕ) → voxels (landing scan view) ≡ voxels_of scan
 unfolding landing
 view_voxels scan view = by_axis scan (slab_axis (step_of scan view)) (main_of (step_of scan view)) (side_of (step_of scan view))
 
-pub view_cells : (scan : Scan) (view : ℕ) → cells (landing scan view) ≡ panel_of scan
+view_cells : (scan : Scan) (view : ℕ) → cells (landing scan view) ≡ panel_of scan
 unfolding landing
 view_cells scan view = refl
 

@@ -13,13 +13,13 @@ module _ (start stride : ℕ) (w : ℕ → ℕ) where
   abbrev here : ℕ → ℕ → ℕ
   here n p = if p == start + n * stride then w n else 0
 
-  pub here_hit : (n p : ℕ) → p ≡ start + n * stride → here n p ≡ w n
+  here_hit : (n p : ℕ) → p ≡ start + n * stride → here n p ≡ w n
   here_hit n p e = cond-true _ _ _ (eq-eqb p (start + n * stride) e)
 
-  pub here_miss : (n p : ℕ) → (p ≡ start + n * stride → ⊥) → here n p ≡ 0
+  here_miss : (n p : ℕ) → (p ≡ start + n * stride → ⊥) → here n p ≡ 0
   here_miss n p h = cond-false _ _ _ (ne_eqb p (start + n * stride) h)
 
-  pub laid_more : (n p : ℕ) → laid start stride w (n + 1) p ≡ laid start stride w n p + here n p
+  laid_more : (n p : ℕ) → laid start stride w (n + 1) p ≡ laid start stride w n p + here n p
   unfolding laid
   laid_more n p = sum_more naturals_laws n (λ i. here i p)
 
@@ -38,7 +38,7 @@ module _ (start stride : ℕ) (w : ℕ → ℕ) where
   laid_zero n p h = laid_none n p (λ i l. zero_here i p (h i l))
 
   -- past n all numbers are 0
-  pub laid_past : (m n p : ℕ) → n ≤ m → ((i : ℕ) → n ≤ i → i < m → w i ≡ 0) → laid start stride w m p ≡ laid start stride w n p
+  laid_past : (m n p : ℕ) → n ≤ m → ((i : ℕ) → n ≤ i → i < m → w i ≡ 0) → laid start stride w m p ≡ laid start stride w n p
   unfolding laid
   laid_past m n p le h = sum_past naturals_laws m n (λ i. here i p) le (λ i a b. zero_here i p (h i a b))
 

@@ -1,7 +1,7 @@
 -- The run of a strip holds every cell that overlaps its stretch.
 use Rattle.std.proofs.Common.{◌≡◌, ℕ, zero, suc, ◌+◌, ◌-◌, ◌<◌, ◌≤◌, Option, Some, None, List, length, slice_index_or, ℤ, pos, ◌≤ℤ◌, ⊎_elim, arith}
 use Rattle.std.specs.Option.{MatchOption, unwrap_or}
-use lib.Signed.{≤ℤ_refl}
+use Rattle.std.specs.Int.Signed.{≤ℤ_refl}
 use borrow.Author.Differences.{ints}
 use Rattle.std.proofs.lemmas.Bool.{cases_lt}
 use Rattle.sweeps.specs.Runs.{share, Rising}
@@ -25,7 +25,7 @@ module _ (es : List ℤ) (rises : Rising es) where
       rw e (omega (arith, ints))
 
   -- edges by number, one not below another
-  pub edge_le : (i j : ℕ) → i ≤ j → j < length es → edge i ≤ℤ edge j
+  edge_le : (i j : ℕ) → i ≤ j → j < length es → edge i ≤ℤ edge j
   edge_le i j le l = let e : i + (j - i) ≡ j = omega arith in rw e at (climbs i (j - i) (omega arith))
 
   -- up to `down` by its edge, and from there up to `first` one by one
@@ -40,14 +40,11 @@ module _ (es : List ℤ) (rises : Rising es) where
     pub share_low : (i : ℕ) → i < length es - 1 → edge (i + 1) ≤ℤ low → share es low high i ≡ 0
     share_low i l h = overlap_low (edge i) (edge (i + 1)) low high (rises i l) ordered h
 
-    pub share_high : (i : ℕ) → i < length es - 1 → high ≤ℤ edge i → share es low high i ≡ 0
-    share_high i l h = overlap_high (edge i) (edge (i + 1)) low high (rises i l) ordered h
-
     pub after_run : (last : ℕ) → (last + 1 < length es → high ≤ℤ edge last) → (i : ℕ) → last ≤ i → i < length es - 1 → share es low high i ≡ 0
     after_run last beyond i le l =
         let a = edge_le last i le (omega arith) in
         let b = beyond (omega arith) in
-        share_high i l (omega (arith, ints))
+        overlap_high (edge i) (edge (i + 1)) low high (rises i l) ordered (omega (arith, ints))
 
     -- nothing overlaps an empty stretch
     pub share_none : high ≤ℤ low → (i : ℕ) → share es low high i ≡ 0

@@ -1,7 +1,7 @@
 -- The weights of all slabs, columns and heights together are the weights of voxels and cells.
 use Rattle.std.proofs.Common.{◌≡◌, ℕ, List, length, ◌+◌, ◌*◌, ◌/◌, ◌%◌, ◌<◌, ◌≤◌, ◌≢◌, sym, ap, ◌∙◌, ap₂, mod-lt, arith}
 use Rattle.std.proofs.lemmas.Nat.{div_below, div-add-mod'}
-use lib.Arith.{digits_div, digits_mod}
+use Rattle.std.proofs.Math.Arith.{digits_div, digits_mod}
 use Rattle.geometry.specs.declared.direction.SlabAxis.{SlabAxis}
 use Rattle.geometry.specs.declared.direction.SlabAxis.TheVariants.{X, Y}
 use Rattle.values.specs.Sums.{sum}
@@ -21,7 +21,7 @@ abbrev pub whole_column : Landing → ℕ → ℕ → ℕ → ℕ
 whole_column L k x c = sum naturals L.slabs (λ j. column_weight L j k x c)
 
 -- a block after the columns before it
-pub block_more : (L : Landing) (first n x c : ℕ) → summed (whole_column L) first x c + block_weight L first n x c ≡ summed (whole_column L) (first + n) x c
+block_more : (L : Landing) (first n x c : ℕ) → summed (whole_column L) first x c + block_weight L first n x c ≡ summed (whole_column L) (first + n) x c
 unfolding block_weight slab_weight
 block_more L first n x c =
     ap (λ u. summed (whole_column L) first x c + u) (sum_swap naturals_laws L.slabs n (λ j d. column_weight L j (first + d) x c))
