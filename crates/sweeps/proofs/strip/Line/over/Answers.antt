@@ -1,6 +1,5 @@
 use Rattle.std.proofs.Common.{◌≡◌, ℕ, ◌<◌, w64, SFits, arith, rules}
-use borrow.Author.Differences.{ints}
-use Rattle.std.proofs.lemmas.Int.{to_z-of_z}
+use Rattle.std.proofs.lemmas.Int.{ints, to_z-of_z}
 use Rattle.sweeps.specs.Runs.{Covers, share}
 use Rattle.sweeps.proofs.Runs.{share_low, after_run, share_none}
 use Rattle.sweeps.proofs.strip.Line.over.Goals as goal
