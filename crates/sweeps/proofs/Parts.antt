@@ -1,8 +1,6 @@
--- Parts of a list, and what a write to one leaves.
-use Rattle.std.proofs.Common.{◌≡◌, ℕ, ◌+◌, ◌-◌, ◌*◌, ◌<◌, ◌≤◌, List, length, get_or, ◌∙◌, mul-le-mul_right, add-mul, one-mul, arith, rules}
-use borrow.Rule.Slice.PartMut.{put_mid}
+-- Parts of a list.
+use Rattle.std.proofs.Common.{◌≡◌, ℕ, ◌+◌, ◌*◌, ◌<◌, ◌≤◌, List, length, get_or, ◌∙◌, mul-le-mul_right, add-mul, one-mul, arith}
 use Rattle.std.specs.List.{between}
-use Rattle.std.proofs.lemmas.List.{places}
 use Rattle.std.proofs.lemmas.List.Edits.{length-between, get_or-between}
 
 -- the end of row m of a table
@@ -19,20 +17,3 @@ module _ {V : Type 0} (s n : ℕ) (xs : List V) where
 
   pub at_part : (d : V) (p : ℕ) → p < n → get_or (part s n xs) p d ≡ get_or xs (s + p) d
   at_part d p h = get_or-between xs s (s + n) p d (omega arith)
-
-  module _ (le : s + n ≤ length xs) (ys : List V) (len : length ys ≡ length (part s n xs)) (d : V) where
-    -- the list after ys was written to the part
-    abbrev pub put : List V
-    put = put_mid s ((s + n) - s) xs ys
-
-    pub length-put : length put ≡ length xs
-    length-put = search (rules, places)
-
-    pub put_before : (p : ℕ) → p < s → get_or put p d ≡ get_or xs p d
-    put_before p h = search (rules, places)
-
-    pub put_in : (p : ℕ) → p < n → get_or put (s + p) d ≡ get_or ys p d
-    put_in p h = search (rules, places)
-
-    pub put_after : (p : ℕ) → s + n ≤ p → get_or put p d ≡ get_or xs p d
-    put_after p h = search (rules, places)
