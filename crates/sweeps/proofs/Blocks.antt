@@ -1,26 +1,12 @@
--- Columns side by side, and the tables of a block.
-use Rattle.std.proofs.Common.{◌≡◌, ℕ, ◌+◌, ◌*◌, ◌<◌, List, length, slice_index_or, ℤ, pos, sym, ap, ◌∙◌, ap₂, arith}
+-- The tables of a block, and those of its columns.
+use Rattle.std.proofs.Common.{◌≡◌, ℕ, ◌+◌, ◌*◌, ◌<◌, List, slice_index_or, ℤ, pos, sym, ap, ◌∙◌, ap₂, arith}
 use Rattle.std.proofs.Math.Arith.{digits_div, digits_mod}
 use Rattle.std.specs.Int.{int_min, int_max}
 use Rattle.sweeps.proofs.Parts.{row_end, part, length_part, at_part}
 use Rattle.scan.specs.Landing.{Landing}
 use Rattle.sweeps.specs.Tables.{Tabled}
-use Rattle.sweeps.specs.Passes.{slab_start, slab_stride, rise, SlabOf, ColumnOf, BlockOf}
+use Rattle.sweeps.specs.Passes.{ColumnOf, BlockOf}
 use Rattle.sweeps.specs.declared.pass.Column.{Column}
-use Rattle.sweeps.specs.declared.pass.Slab.{Slab}
-
--- the numbers and tables of a slab, from those of its number
-pub slab_is : (L : Landing) (j : ℕ) (s : Slab) → j < L.slabs → s.number ≡ j → s.lowest.start ≡ slab_start L j → s.lowest.stride ≡ slab_stride L → s.rise ≡ rise L
-    → (us ws : List ℤ) → s.lowest.edges.at.now ≡ us → s.heights.at.now ≡ ws → Tabled us (L.crosses + 1) (L.U j) → Tabled ws (L.heights + 1) (L.W j) → SlabOf L s
-slab_is L j s below number start stride rise us ws crosses heights U W =
-    record {
-      below = omega arith;
-      start = start ∙ ap (slab_start L) (sym number);
-      stride = stride;
-      rise = rise;
-      crosses = rw (crosses, number) U;
-      heights = rw (heights, number) W;
-    }
 
 module _ {L : Landing} {first count : ℕ} {columns rows : List ℤ} (bo : BlockOf L first count columns rows) (d : ℕ) (below : d < count) where
   abbrev width : ℕ
@@ -37,9 +23,6 @@ module _ {L : Landing} {first count : ℕ} {columns rows : List ℤ} (bo : Block
         length_part (d * width) width rows (omega arith),
         λ m h. at_part (d * width) width rows (pos 0) m h ∙ bo.rows_are.1 (d * width + m) (omega arith) ∙ ap₂ (λ k n. L.T (first + k) n) (digits_div d h) (digits_mod d h),
       )
-
-  pub part_some : 0 < length edges
-  part_some = let e = part_tabled.0 in omega arith
 
   pub block_column : (c : Column) → c.number ≡ first + d → c.cells.start ≡ c.number → c.cells.stride ≡ L.columns
       → c.over.low ≡ int_min (slice_index_or columns d (pos 0)) (slice_index_or columns (d + 1) (pos 0))

@@ -1,5 +1,8 @@
 -- Stores place by place: what a sweep of one view leaves is what the definitions say.
 use Rattle.std.proofs.Common.{◌≡◌, ℕ, ◌+◌, ◌-◌, ◌*◌, ◌<◌, ◌≤◌, List, length, ap, ◌∙◌, arith, rules}
+use borrow.Rule.Slice.PartMut.{put_mid}
+use Rattle.std.proofs.lemmas.Bool.Decides.{nat_tests}
+use Rattle.std.proofs.lemmas.List.{places as elements}
 use Rattle.std.proofs.lemmas.List.FromFn.{fill_by_all}
 use Rattle.values.specs.Laws.{Ops, Laws}
 use Rattle.values.proofs.Sums.{sum_same}
@@ -7,9 +10,6 @@ use Rattle.sweeps.specs.Stores.{at}
 use Rattle.sweeps.specs.Strips.{Gained}
 use Rattle.sweeps.specs.Systems.{System, places, forward, back}
 use Rattle.sweeps.proofs.Parts.{part, length_part, at_part}
-use borrow.Rule.Slice.PartMut.{put_mid}
-use Rattle.std.proofs.lemmas.List.{places as elements}
-use Rattle.std.proofs.lemmas.Bool.Decides.{nat_tests}
 
 module _ {V : Type 0} {o : Ops V} (laws : Laws o) (s : System) (v : ℕ) (f : V) (volume working : List V)
     (voxels : length volume ≡ s.voxels) (cells : length working ≡ places s) (within : v * s.cells + s.cells ≤ length working) where

@@ -1,8 +1,8 @@
-use Rattle.std.proofs.Common.{◌+◌, ◌*◌, slice_index_or, pos, refl, ap, w64, SFits, rules}
+use Rattle.std.proofs.Common.{◌+◌, ◌*◌, slice_index_or, pos, refl, ap, arith, w64, SFits, rules}
 use Rattle.std.specs.List.{between}
 use Rattle.std.proofs.lemmas.Int.{to_z-of_z}
 use Rattle.sweeps.proofs.Beams.{tabled_rising}
-use Rattle.sweeps.proofs.Blocks.{part_tabled, part_some, block_column}
+use Rattle.sweeps.proofs.Blocks.{part_tabled, block_column}
 use Rattle.sweeps.proofs.block.Block.column.Goals as goal
 
 pub invariant_of-rows : goal.invariant_of-rows
@@ -12,7 +12,7 @@ invariant_of-rows g c =
     let sound = g.met.L.Landed.sound b.pass.now.view.now in
     let tabled = part_tabled b.tables c.args.offset c.requires in
     rw c.rows-width.ensures
-    (record { some = part_some b.tables c.args.offset c.requires; rises = tabled_rising _ L.rows _ tabled (sound.T_rises (b.first + c.args.offset)) })
+    (record { some = omega arith; rises = tabled_rising _ L.rows _ tabled (sound.T_rises (b.first + c.args.offset)) })
 
 pub returns-clause-column : goal.returns-clause-column
 returns-clause-column g c =
