@@ -1,5 +1,5 @@
 -- Gains summed over the turns of a loop, whichever way the sweep goes.
-use Rattle.std.proofs.Common.{◌≡◌, ℕ, ◌+◌, ◌<◌, List, length, sym, refl, ap, arith}
+use Rattle.std.proofs.Common.{◌≡◌, ℕ, ◌+◌, ◌<◌, List, length, sym, refl, arith}
 use Rattle.values.specs.Laws.{Ops, Laws}
 use Rattle.values.specs.Sums.{sum}
 use Rattle.values.proofs.Sums.{sum_more}
@@ -51,11 +51,6 @@ module _ {V View : Type 0} {o : Ops V} (laws : Laws o) {pass : Pass V View} {old
   unfolding sum
   summed_none M = swept_none (λ x c. refl)
 
-  module _ (M : ℕ → ℕ → ℕ → ℕ) where
-    -- one turn more
-    pub summed_more : (n : ℕ) {mid new : List V} → length mid ≡ length old → Swept o pass (summed M n) old mid → Swept o pass (M n) mid new → Swept o pass (summed M (n + 1)) old new
-    summed_more n len = swept_joined len (λ x c. sym (sum_more naturals_laws n (λ t. M t x c)))
-
-    -- all turns
-    pub summed_all : {m n : ℕ} {new : List V} → m ≡ n → Swept o pass (summed M m) old new → Swept o pass (summed M n) old new
-    summed_all e = swept_as (λ x c. ap (λ k. summed M k x c) e)
+  -- one turn more
+  pub summed_more : (M : ℕ → ℕ → ℕ → ℕ) (n : ℕ) {mid new : List V} → length mid ≡ length old → Swept o pass (summed M n) old mid → Swept o pass (M n) mid new → Swept o pass (summed M (n + 1)) old new
+  summed_more M n len = swept_joined len (λ x c. sym (sum_more naturals_laws n (λ t. M t x c)))

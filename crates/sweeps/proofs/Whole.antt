@@ -14,7 +14,7 @@ use Rattle.sweeps.specs.Passes.{Sized, Swept, slab_start, slab_stride, rise, vox
 use Rattle.sweeps.proofs.Naturals.{naturals_laws}
 use Rattle.sweeps.proofs.Beams.{voxel_place, no_voxels, no_cells}
 use Rattle.sweeps.proofs.Laid.{laid_only, laid_miss}
-use Rattle.sweeps.proofs.Levels.{summed, summed_all, swept_joined, swept_within}
+use Rattle.sweeps.proofs.Levels.{summed, swept_joined, swept_within}
 
 -- what a voxel and a cell have of their weight in column k, over all slabs
 abbrev pub whole_column : Landing → ℕ → ℕ → ℕ → ℕ
@@ -157,4 +157,4 @@ module _ {V View : Type 0} {o : Ops V} (laws : Laws o) {pass : Pass V View} (L :
 
   -- a sweep of all columns
   pub whole_swept : Sound L → Sized L pass (length old) → {n : ℕ} {new : List V} → n ≡ L.columns → Swept o pass (summed (whole_column L) n) old new → Swept o pass (weight L) old new
-  whole_swept sound sized end s = swept_within laws L sized (whole_weight L sound) (summed_all laws (whole_column L) end s)
+  whole_swept sound sized end s = swept_within laws L sized (whole_weight L sound) (rw end at s)

@@ -1,5 +1,5 @@
 use Rattle.std.proofs.Common.{◌≡◌, ◌+◌, arith}
-use Rattle.sweeps.proofs.Levels.{summed_none, summed_all}
+use Rattle.sweeps.proofs.Levels.{summed_none}
 use Rattle.sweeps.proofs.Whole.{whole_column, block_swept, whole_swept}
 use Rattle.sweeps.proofs.sweep.sweep.Goals as goal
 
@@ -13,7 +13,7 @@ loop-first-preserved g c =
     let laws = g.met.V.Value.lawful in
     let columns = c.columns-columns.ensures in
     let next : c.loop-first.first + c.min.result ≡ c.loop-first.first + 16 = omega arith in
-    (omega arith, summed_all laws (whole_column L) next (block_swept laws L _ _ c.loop-first.auto.to c.loop-first.invariant.1 c.sweep_block.ensures))
+    (omega arith, rw next at (block_swept laws L _ _ c.loop-first.auto.to c.loop-first.invariant.1 c.sweep_block.ensures))
 
 pub returns : goal.returns
 returns g c =

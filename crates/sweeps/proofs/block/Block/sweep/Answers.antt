@@ -1,6 +1,6 @@
 use Rattle.std.proofs.Common.{◌≡◌, ◌-◌, length, arith}
 use Rattle.sweeps.specs.Passes.{slab_weight, block_weight}
-use Rattle.sweeps.proofs.Levels.{summed_none, summed_more, summed_all}
+use Rattle.sweeps.proofs.Levels.{summed_none, summed_more}
 use Rattle.sweeps.proofs.block.Block.sweep.Goals as goal
 
 pub loop-number-init : goal.loop-number-init
@@ -17,8 +17,6 @@ loop-number-preserved g c =
 pub returns : goal.returns
 unfolding block_weight
 returns g c =
-    let b = c.args.self.now in
-    let L = g.L.Landed.landing b.pass.now.view.now in
     let slabs = c.slabs-number-end.ensures in
-    let end : c.loop-number.number ≡ L.slabs = omega arith in
-    summed_all g.met.V.Value.lawful (slab_weight L b.first (length b.columns.now - 1)) end c.loop-number.invariant
+    let end : c.loop-number.number ≡ (g.L.Landed.landing c.args.self.now.pass.now.view.now).slabs = omega arith in
+    rw end at c.loop-number.invariant

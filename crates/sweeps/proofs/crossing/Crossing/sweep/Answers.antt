@@ -1,6 +1,6 @@
 use Rattle.std.proofs.Common.{◌≡◌, arith}
 use Rattle.sweeps.specs.Passes.{beam_weight, column_weight}
-use Rattle.sweeps.proofs.Levels.{summed_none, summed_more, summed_all}
+use Rattle.sweeps.proofs.Levels.{summed_none, summed_more}
 use Rattle.sweeps.proofs.crossing.Crossing.sweep.Goals as goal
 
 pub loop-height-init : goal.loop-height-init
@@ -18,8 +18,7 @@ pub returns : goal.returns
 unfolding column_weight
 returns g c =
     let x = c.args.self.now in
-    let L = g.L.Landed.landing x.pass.now.view.now in
     let len = x.slab_of.heights.0 in
     let cells = c.cells-height-end.ensures in
-    let end : c.loop-height.height ≡ L.heights = omega arith in
-    summed_all g.met.V.Value.lawful (beam_weight L x.slab.number x.column.number) end c.loop-height.invariant
+    let end : c.loop-height.height ≡ (g.L.Landed.landing x.pass.now.view.now).heights = omega arith in
+    rw end at c.loop-height.invariant
