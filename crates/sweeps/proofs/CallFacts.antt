@@ -1,5 +1,5 @@
 -- From an accepted call on a plan's view to what its sweep asks and leaves.
-use Rattle.std.proofs.Common.{◌≡◌, ℕ, ◌+◌, ◌-◌, ◌*◌, ◌≤◌, ◌<◌, List, length, ℤ, None, sym, refl, ap, ◌∙◌, arith}
+use Rattle.std.proofs.Common.{◌≡◌, ℕ, ◌+◌, ◌-◌, ◌*◌, ◌≤◌, ◌<◌, List, length, ℤ, None, sym, refl, ◌∙◌, arith}
 use borrow.Rule.Slice.PartMut.{put_mid}
 use Rattle.geometry.specs.declared.direction.SlabAxis.{SlabAxis}
 use Rattle.geometry.specs.declared.direction.SlabAxis.TheVariants.{X, Y}
@@ -13,7 +13,6 @@ use Rattle.sweeps.specs.Calls.{system_of, call_check, unless_refused}
 use Rattle.sweeps.specs.Passes.{weights, Answered}
 use Rattle.sweeps.specs.declared.pass.Way.TheVariants.{Forward, Back}
 use Rattle.sweeps.proofs.Parts.{row_end, part, length_part}
-use Rattle.sweeps.proofs.Gains.{gained_same}
 use Rattle.sweeps.proofs.Places.{forward_is, back_is}
 
 -- what holds where a call on a view is not refused
@@ -53,38 +52,24 @@ module _ {scan : Scan} {view volume working start n : ℕ} {L : Landing} (answer
   accepted = from_accepted (system_of scan) view volume working answered.accepted
 
   pub volume_sized : volume ≡ voxels L
-  volume_sized = accepted.voxels ∙ sym (view_voxels scan view) ∙ ap voxels (sym answered.lands)
+  volume_sized = rw answered.lands (accepted.voxels ∙ sym (view_voxels scan view))
 
   pub part_sized : {V : Type 0} (xs : List V) → length xs ≡ working → length (part start n xs) ≡ cells L
   part_sized xs e =
       let within = answered.within in
-      length_part start n xs (omega arith) ∙ answered.cells_are ∙ sym (view_cells scan view) ∙ ap cells (sym answered.lands)
+      rw (answered.lands, view_cells) (length_part start n xs (omega arith) ∙ answered.cells_are)
 
 module _ {V : Type 0} {o : Ops V} (laws : Laws o) {scan : Scan} {view start n : ℕ} {L : Landing} (f : V) (volume working : List V) (answered : Answered scan view (length volume) (length working) start n L) where
-  abbrev s : System
-  s = system_of scan
-
-  weight_is : (x c : ℕ) → weight L x c ≡ s.weight view x c
-  weight_is x c = ap (λ M. weight M x c) answered.lands
-
-  kept : {A : Type 0} (new old : A) → new ≡ unless_refused (call_check s view (length volume) (length working)) new old
-  kept new old = ap (λ v. unless_refused v new old) (sym answered.accepted)
-
-  within : view * panel_of scan + panel_of scan ≤ length working
-  within = rw (answered.start_is, answered.cells_are) at answered.within
-
   pub forward_leaves : (ys : List V) → length ys ≡ length (part start n working) → Gained o f volume (weights Forward (weight L)) (part start n working) ys
-      → put_mid start ((start + n) - start) working ys ≡ unless_refused (call_check s view (length volume) (length working)) (forward o s view f volume working) working
+      → put_mid start ((start + n) - start) working ys ≡ unless_refused (call_check (system_of scan) view (length volume) (length working)) (forward o (system_of scan) view f volume working) working
   forward_leaves =
       let a = accepted answered in
-      rw (answered.start_is, answered.cells_are)
-      (λ ys len gained. forward_is laws s view f volume working a.voxels a.cells within ys len (gained_same laws (λ q p h k. weight_is q p) gained)
-      ∙ kept (forward o s view f volume working) working)
+      let within = rw (answered.start_is, answered.cells_are) at answered.within in
+      rw (answered.lands, answered.start_is, answered.cells_are, answered.accepted) (forward_is laws (system_of scan) view f volume working a.voxels a.cells within)
 
   pub back_leaves : (new : List V) → length new ≡ length volume → Gained o f (part start n working) (weights Back (weight L)) volume new
-      → new ≡ unless_refused (call_check s view (length volume) (length working)) (back o s view f working volume) volume
+      → new ≡ unless_refused (call_check (system_of scan) view (length volume) (length working)) (back o (system_of scan) view f working volume) volume
   back_leaves =
       let a = accepted answered in
-      rw (answered.start_is, answered.cells_are)
-      (λ new len gained. back_is laws s view f volume working a.voxels a.cells within new len (gained_same laws (λ q p h k. weight_is p q) gained)
-      ∙ kept (back o s view f working volume) volume)
+      let within = rw (answered.start_is, answered.cells_are) at answered.within in
+      rw (answered.lands, answered.start_is, answered.cells_are, answered.accepted) (back_is laws (system_of scan) view f volume working a.voxels a.cells within)

@@ -87,23 +87,19 @@ module _ {V : Type 0} {o : Ops V} (laws : Laws o) (s : Strip) (xs : List V) wher
   pub scatter_none : (v : V) → Scattered v s.first xs
   scatter_none v p l = sym (plus_none laws (at o xs p) _ (multiple_none laws v _ (share_none p)))
 
-  scatter_join : (v : V) (n p : ℕ) (y z : V) → y ≡ o.plus (at o xs p) (o.multiple v (first_share s n p)) → z ≡ o.plus y (o.multiple v (here_share n p)) → z ≡ o.plus (at o xs p) (o.multiple v (first_share s (n + 1) p))
-  scatter_join v n p y z e f =
-      f
-      ∙ ap (λ u. o.plus u (o.multiple v (here_share n p))) e
-      ∙ laws.plus_assoc (at o xs p) (o.multiple v (first_share s n p)) (o.multiple v (here_share n p))
-      ∙ ap (o.plus (at o xs p)) (sym (multiple_add laws v (first_share s n p) (here_share n p)) ∙ ap (o.multiple v) (sym (share_more n p)))
-
   pub scatter_more : (v : V) (n : ℕ) (ys : List V) (y : V) → place s n < length ys → Scattered v n ys → y ≡ o.plus (at o ys (place s n)) (o.multiple v (cell_overlap s n)) → Scattered v (n + 1) (set ys (place s n) y)
   scatter_more v n ys y lt inv e p l =
       let k = place s n in
-      scatter_join v n p (at o ys p) (at o (set ys k y) p) (inv p l)
-      (⊎_elim
-      (λ same. ap (λ j. at o (set ys k y) j) same ∙ get_or-set_same ys k y o.zero lt ∙ e
-      ∙ ap₂ (λ j m. o.plus (at o ys j) (o.multiple v m)) (sym same) (sym (here_hit s.line.start s.line.stride (cell_overlap s) n p same)))
+      let step : at o (set ys k y) p ≡ o.plus (at o ys p) (o.multiple v (here_share n p)) =
+      ⊎_elim
+      (λ same. rw (here_hit s.line.start s.line.stride (cell_overlap s) n p same, same) (get_or-set_same ys k y o.zero lt ∙ e))
       (λ other. get_or-set_other ys k p y o.zero other
       ∙ sym (plus_none laws (at o ys p) _ (multiple_none laws v _ (here_miss s.line.start s.line.stride (cell_overlap s) n p other))))
-      (cases_eq p k))
+      (cases_eq p k) in
+      step
+      ∙ ap (λ u. o.plus u (o.multiple v (here_share n p))) (inv p l)
+      ∙ laws.plus_assoc (at o xs p) (o.multiple v (first_share s n p)) (o.multiple v (here_share n p))
+      ∙ ap (o.plus (at o xs p)) (sym (multiple_add laws v (first_share s n p) (here_share n p)) ∙ ap (o.multiple v) (sym (share_more n p)))
 
   pub scatter_all : (v : V) (n : ℕ) (ys : List V) → n ≡ s.last → Scattered v n ys → Scattered v (strip_cells s) ys
   scatter_all v n ys e inv p l = inv p l ∙ ap (λ k. o.plus (at o xs p) (o.multiple v k)) (sym (share_all n p e))

@@ -1,9 +1,8 @@
 -- The run of a strip holds every cell that overlaps its stretch.
-use Rattle.std.proofs.Common.{◌≡◌, ℕ, zero, suc, ◌+◌, ◌-◌, ◌<◌, ◌≤◌, Option, Some, None, List, length, slice_index_or, ℤ, pos, ◌≤ℤ◌, ◌<ℤ◌, ⊎_elim, arith}
+use Rattle.std.proofs.Common.{◌≡◌, ℕ, zero, suc, ◌+◌, ◌-◌, ◌<◌, ◌≤◌, Option, Some, None, List, length, slice_index_or, ℤ, pos, ◌≤ℤ◌, ◌<ℤ◌, arith}
 use Rattle.std.specs.Option.{MatchOption, unwrap_or}
 use Rattle.std.specs.Int.Signed.{≤ℤ_refl}
 use Rattle.std.proofs.lemmas.Int.{ints}
-use Rattle.std.proofs.lemmas.Bool.{cases_lt}
 use Rattle.sweeps.specs.Runs.{share, Rising, Covers}
 use Rattle.geometry.proofs.Overlaps.{overlap_low, overlap_high, overlap_sym, overlap_most}
 
@@ -31,10 +30,8 @@ module _ (es : List ℤ) (rises : Rising es) where
   -- up to `down` by its edge, and from there up to `first` one by one
   pub edges_before : (low : ℤ) (down first : ℕ) → down ≤ first → first < length es → (0 < down → edge down ≤ℤ low) → ((i : ℕ) → down ≤ i → i < first → edge (i + 1) ≤ℤ low) → (i : ℕ) → i < first → edge (i + 1) ≤ℤ low
   edges_before low down first le l below passed i h =
-      ⊎_elim
-      (λ lt. let a = edge_le (i + 1) down (omega arith) (omega arith) in let b = below (omega arith) in omega (arith, ints))
-      (λ ge. passed i ge h)
-      (cases_lt i down)
+      let up : i < down → edge (i + 1) ≤ℤ edge down = λ lt. edge_le (i + 1) down (omega arith) (omega arith) in
+      grind (arith, ints, up, passed)
 
   -- a run ends at the first cell past the stretch, or is empty where the stretch is
   pub covers_run : (low high : ℤ) → low ≤ℤ high → (first last : ℕ) → first ≤ last → last < length es → ((i : ℕ) → i < first → edge (i + 1) ≤ℤ low) → (low <ℤ high → last + 1 < length es → high ≤ℤ edge last) → Covers es low high first last
