@@ -1,15 +1,12 @@
 -- The line of voxels and the line of cells that meet at one slab, column and height.
-use Rattle.std.proofs.Common.{◌≡◌, ℕ, ◌+◌, ◌*◌, ◌^◌, ◌<◌, ◌≤◌, if◌then◌else◌, ◌==◌, List, length, slice_index_or, ℤ, pos, ◌≤ℤ◌, sym, ap, ◌∙◌, subst, ap₂, ⊎_elim, mul_assoc, add-mul, mul-le-mul, mul-zero, zero-mul, mul-one, arith}
+use Rattle.std.proofs.Common.{◌≡◌, ℕ, ◌+◌, ◌*◌, ◌^◌, ◌<◌, ◌≤◌, if◌then◌else◌, ◌==◌, length, sym, ap, ◌∙◌, ap₂, ⊎_elim, mul_assoc, add-mul, mul-le-mul, mul-zero, zero-mul, mul-one, arith}
 use Rattle.std.proofs.Math.Arith.{digits_lt}
 use Rattle.std.proofs.lemmas.Bool.{cases_lt}
-use Rattle.geometry.specs.Overlap.{overlap}
 use Rattle.geometry.specs.declared.direction.SlabAxis.{SlabAxis}
 use Rattle.geometry.specs.declared.direction.SlabAxis.TheVariants.{X, Y}
 use Rattle.values.proofs.Sums.{sum_same, sum_none}
 use Rattle.scan.specs.Landing.{Landing, Sound, by_slabs, voxels, cells, cross_overlap, height_overlap}
-use Rattle.sweeps.specs.Runs.{share, Rising}
 use Rattle.sweeps.specs.Strips.{laid, strip_cells, cell_overlap, strip_share, Inside}
-use Rattle.sweeps.specs.Tables.{Tabled}
 use Rattle.sweeps.specs.Passes.{Lengths, Placed, slab_start, slab_stride, rise, voxel_share, cell_share, beam_weight, column_weight, SlabOf, ColumnOf, Meets, VoxelLine, CellLine}
 use Rattle.sweeps.specs.declared.pass.Way.{Way}
 use Rattle.sweeps.specs.declared.pass.Way.TheVariants.{Forward, Back}
@@ -52,13 +49,6 @@ line_most {L = L} {slab = slab} sound sl l lh =
     let m = volume_most L.along L.slabs L.crosses L.heights sound.slabs.1 sound.crosses.1 sound.heights.1 in
     rw (sl.start, sl.rise) (omega (arith, zero-mul (slab_stride L)))
 
--- a table of edges that rise is a list that rises
-pub tabled_rising : (es : List ℤ) (n : ℕ) (f : ℕ → ℤ) → Tabled es (n + 1) f → ((i : ℕ) → f i ≤ℤ f (i + 1)) → Rising es
-tabled_rising es n f t r i l =
-    let len = t.0 in
-    subst (λ z. z ≤ℤ slice_index_or es (i + 1) (pos 0)) (sym (t.1 i (omega arith)))
-    (subst (λ z. f i ≤ℤ z) (sym (t.1 (i + 1) (omega arith))) (r i))
-
 placed : (way : Way) (L : Landing) (from to : ℕ) (s t : Strip) → Inside s (voxels L) → Inside t (cells L) → Lengths way L from to → Placed way s t from to
 placed Forward L from to s t a b z = (rw z.0 a, rw z.1 b)
 placed Back L from to s t a b z = (rw z.0 b, rw z.1 a)
@@ -99,10 +89,8 @@ module _ {L : Landing} {slab : Slab} {column : Column} (sl : SlabOf L slab) (co 
   cross_is : (s : Strip) → s.line.edges ≡ slab.lowest.edges → s.over ≡ column.over → (i : ℕ) → i < L.crosses → cell_overlap s i ≡ cross_overlap L slab.number i column.number
   unfolding cross_overlap
   cross_is s edges over i l =
-      ap₂ (λ es over. share es.at.now over.low over.high i) edges over
-      ∙ ap₂ (λ a b. overlap a b column.over.low column.over.high) (sl.crosses.1 i (omega arith)) (sl.crosses.1 (i + 1) (omega arith))
-      ∙ ap₂ (λ a b. overlap (L.U slab.number i) (L.U slab.number (i + 1)) a b) co.low co.high
-      ∙ overlap_sorted (L.U slab.number i) (L.U slab.number (i + 1)) (L.S column.number) (L.S (column.number + 1))
+      rw (edges, over, sl.crosses.1 i (omega arith), sl.crosses.1 (i + 1) (omega arith), co.low, co.high)
+      (overlap_sorted (L.U slab.number i) (L.U slab.number (i + 1)) (L.S column.number) (L.S (column.number + 1)))
 
   -- the column meets no voxel of the slab
   pub column_none : (s : Strip) → Meets slab column s → s.last ≤ s.first → (x c : ℕ) → column_weight L slab.number column.number x c ≡ 0
@@ -117,29 +105,25 @@ module _ {L : Landing} {slab : Slab} {column : Column} (sl : SlabOf L slab) (co 
   module _ {l : ℕ} (lh : l < L.heights) where
     row_is : {s : Strip} → CellLine slab column l s → (m : ℕ) → m < L.rows → cell_overlap s m ≡ height_overlap L slab.number l column.number m
     unfolding height_overlap
-    row_is {s = s} v m mr =
-        let T = L.T column.number in
-        let W = L.W slab.number in
-        ap (λ line. share line.edges.at.now s.over.low s.over.high m) v.line
-        ∙ ap₂ (λ a b. overlap a b s.over.low s.over.high) (co.rows.1 m (omega arith)) (co.rows.1 (m + 1) (omega arith))
-        ∙ ap₂ (λ a b. overlap (T m) (T (m + 1)) a b) (v.low ∙ sl.heights.1 l (omega arith)) (v.high ∙ sl.heights.1 (l + 1) (omega arith))
-        ∙ overlap_sym (T m) (T (m + 1)) (W l) (W (l + 1))
+    row_is v m mr =
+        rw (v.line, v.low, v.high, co.rows.1 m (omega arith), co.rows.1 (m + 1) (omega arith), sl.heights.1 l (omega arith), sl.heights.1 (l + 1) (omega arith))
+        (overlap_sym (L.T column.number m) (L.T column.number (m + 1)) (L.W slab.number l) (L.W slab.number (l + 1)))
 
     voxels_stand : {s : Strip} → VoxelLine slab column l s → Stands s (slab_start L slab.number + l * rise L) (slab_stride L) (λ i. cross_overlap L slab.number i column.number) L.crosses
     voxels_stand {s = s} v =
         record {
-          start_is = v.start ∙ ap₂ (λ a b. a + l * b) sl.start sl.rise;
-          stride_is = v.stride ∙ sl.stride;
-          cells_are = let e = ap (λ es. length es.at.now) v.edges in let f = sl.crosses.0 in omega arith;
+          start_is = rw (v.start, sl.start, sl.rise);
+          stride_is = rw (v.stride, sl.stride);
+          cells_are = rw (v.edges, sl.crosses.0) (omega arith);
           overlaps = cross_is s v.edges v.over;
         }
 
     cells_stand : {s : Strip} → CellLine slab column l s → Stands s column.number L.columns (λ m. height_overlap L slab.number l column.number m) L.rows
     cells_stand v =
         record {
-          start_is = ap (λ line. line.start) v.line ∙ co.start;
-          stride_is = ap (λ line. line.stride) v.line ∙ co.stride;
-          cells_are = let e = ap (λ line. length line.edges.at.now) v.line in let f = co.rows.0 in omega arith;
+          start_is = rw (v.line, co.start);
+          stride_is = rw (v.line, co.stride);
+          cells_are = rw (v.line, co.rows.0) (omega arith);
           overlaps = row_is v;
         }
 

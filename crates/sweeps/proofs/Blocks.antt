@@ -1,12 +1,17 @@
 -- The tables of a block, and those of its columns.
-use Rattle.std.proofs.Common.{◌≡◌, ℕ, ◌+◌, ◌*◌, ◌<◌, List, slice_index_or, ℤ, pos, sym, ap, ◌∙◌, ap₂, arith}
+use Rattle.std.proofs.Common.{◌≡◌, ℕ, ◌+◌, ◌*◌, ◌<◌, ◌≤ℤ◌, List, slice_index_or, ℤ, pos, sym, ap, ◌∙◌, ap₂, arith}
 use Rattle.std.proofs.Math.Arith.{digits_div, digits_mod}
 use Rattle.std.specs.Int.{int_min, int_max}
 use Rattle.sweeps.proofs.Parts.{row_end, part, length_part, at_part}
 use Rattle.scan.specs.Landing.{Landing}
+use Rattle.sweeps.specs.Runs.{Rising}
 use Rattle.sweeps.specs.Tables.{Tabled}
 use Rattle.sweeps.specs.Passes.{ColumnOf, BlockOf}
 use Rattle.sweeps.specs.declared.pass.Column.{Column}
+
+-- a table of edges that rise is a list that rises
+pub tabled_rising : (es : List ℤ) (n : ℕ) (f : ℕ → ℤ) → Tabled es (n + 1) f → ((i : ℕ) → f i ≤ℤ f (i + 1)) → Rising es
+tabled_rising es n f t r i l = let len = t.0 in rw (t.1 i (omega arith), t.1 (i + 1) (omega arith)) (r i)
 
 module _ {L : Landing} {first count : ℕ} {columns rows : List ℤ} (bo : BlockOf L first count columns rows) (d : ℕ) (below : d < count) where
   abbrev width : ℕ

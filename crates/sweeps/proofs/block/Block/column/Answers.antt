@@ -1,8 +1,7 @@
 use Rattle.std.proofs.Common.{◌+◌, ◌*◌, slice_index_or, pos, refl, ap, arith, w64, SFits, rules}
 use Rattle.std.specs.List.{between}
 use Rattle.std.proofs.lemmas.Int.{to_z-of_z}
-use Rattle.sweeps.proofs.Beams.{tabled_rising}
-use Rattle.sweeps.proofs.Blocks.{part_tabled, block_column}
+use Rattle.sweeps.proofs.Blocks.{tabled_rising, part_tabled, block_column}
 use Rattle.sweeps.proofs.block.Block.column.Goals as goal
 
 pub invariant_of-rows : goal.invariant_of-rows
