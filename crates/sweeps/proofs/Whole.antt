@@ -1,5 +1,5 @@
 -- The weights of all slabs, columns and heights together are the weights of voxels and cells.
-use Rattle.std.proofs.Common.{◌≡◌, ℕ, List, length, ◌+◌, ◌*◌, ◌/◌, ◌%◌, ◌<◌, ◌≤◌, ◌≢◌, sym, ap, ◌∙◌, ap₂, mod-lt, arith}
+use Rattle.std.proofs.Common.{◌≡◌, ℕ, List, length, ◌+◌, ◌*◌, ◌/◌, ◌%◌, ◌<◌, ◌≤◌, ◌≢◌, refl, sym, ap, ◌∙◌, ap₂, mod-lt, arith}
 use Rattle.std.proofs.lemmas.Nat.{div_below, div-add-mod'}
 use Rattle.std.proofs.Math.Arith.{digits_div, digits_mod}
 use Rattle.geometry.specs.declared.direction.SlabAxis.{SlabAxis}
@@ -36,10 +36,8 @@ module _ (x a b : ℕ) where
   encoded : (x / a / b * b + x / a % b) * a + x % a ≡ x
   encoded = ap (λ q. q * a + x % a) (div-add-mod' (x / a) b) ∙ div-add-mod' x a
 
-  decoded : (l i j : ℕ) → i < b → j < a → x ≡ (l * b + i) * a + j → (x % a ≡ j) × ((x / a % b ≡ i) × (x / a / b ≡ l))
-  decoded l i j ib ja e =
-      let q : x / a ≡ l * b + i = ap (λ y. y / a) e ∙ digits_div (l * b + i) ja in
-      (ap (λ y. y % a) e ∙ digits_mod (l * b + i) ja, (ap (λ y. y % b) q ∙ digits_mod l ib, ap (λ y. y / b) q ∙ digits_div l ib))
+  decoded : (l i j : ℕ) → i < b → j < a → x ≡ (l * b + i) * a + j → (j ≡ x % a) × ((i ≡ x / a % b) × (l ≡ x / a / b))
+  decoded l i j ib ja e = rw (e, digits_mod (l * b + i) ja, digits_div (l * b + i) ja, digits_mod l ib, digits_div l ib) (refl, (refl, refl))
 
 -- the same of a voxel's place, whichever axis the slabs are along: s slabs, c cross cells
 module _ (s c x : ℕ) where
@@ -57,8 +55,8 @@ module _ (s c x : ℕ) where
   voxel_encoded Y = sym (encoded x c s)
 
   voxel_decoded : (a : SlabAxis) (l j i : ℕ) → j < s → i < c → x ≡ by_slabs a ((l * c + i) * s + j) ((l * s + j) * c + i) → (j ≡ slab a) × ((i ≡ cross a) × (l ≡ height a))
-  voxel_decoded X l j i js ic e = let d = decoded x s c l i j ic js e in (sym d.0, (sym d.1.0, sym d.1.1))
-  voxel_decoded Y l j i js ic e = let d = decoded x c s l j i js ic e in (sym d.1.0, (sym d.0, sym d.1.1))
+  voxel_decoded X l j i js ic e = decoded x s c l i j ic js e
+  voxel_decoded Y l j i js ic e = let d = decoded x c s l j i js ic e in (d.1.0, (d.0, d.1.1))
 
   slab_below : (a : SlabAxis) → 1 ≤ s → 1 ≤ c → slab a < s
   slab_below X s1 c1 = mod-lt x s1
@@ -116,7 +114,7 @@ module _ (L : Landing) (sound : Sound L) (x c : ℕ) (xv : x < voxels L) (cc : c
   of_column : (k m : ℕ) → k < L.columns → c ≡ k + m * L.columns → (k ≡ k') × (m ≡ m')
   of_column k m kc e =
       let f : c ≡ m * L.columns + k = omega arith in
-      (sym (ap (λ y. y % L.columns) f ∙ digits_mod m kc), sym (ap (λ y. y / L.columns) f ∙ digits_div m kc))
+      rw (f, digits_mod m kc, digits_div m kc) (refl, refl)
 
   column_below : k' < L.columns
   column_below = mod-lt c sound.columns.0
