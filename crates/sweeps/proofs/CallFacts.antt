@@ -13,7 +13,7 @@ use Rattle.sweeps.specs.Calls.{system_of, call_check, unless_refused}
 use Rattle.sweeps.specs.Passes.{weights, Answered}
 use Rattle.sweeps.specs.declared.pass.Way.TheVariants.{Forward, Back}
 use Rattle.sweeps.proofs.Parts.{part, length_part}
-use Rattle.sweeps.proofs.Places.{Accepted, from_accepted, forward_is, back_is}
+use Rattle.sweeps.proofs.Places.{from_accepted, forward_is, back_is}
 
 by_axis : (scan : Scan) (along : SlabAxis) (a b : ℤ) → voxels (landing_of scan along a b) ≡ voxels_of scan
 by_axis scan X a b = refl
@@ -29,11 +29,8 @@ unfolding landing
 view_cells scan view = refl
 
 module _ {scan : Scan} {view volume working start n : ℕ} {L : Landing} (answered : Answered scan view volume working start n L) where
-  abbrev accepted : Accepted (system_of scan) view volume working
-  accepted = from_accepted (system_of scan) view volume working answered.accepted
-
   pub volume_sized : volume ≡ voxels L
-  volume_sized = rw answered.lands (accepted.voxels ∙ sym (view_voxels scan view))
+  volume_sized = let a = from_accepted (system_of scan) view volume working answered.accepted in rw answered.lands (a.voxels ∙ sym (view_voxels scan view))
 
   pub part_sized : {V : Type 0} (xs : List V) → length xs ≡ working → length (part start n xs) ≡ cells L
   part_sized xs e =
@@ -43,8 +40,8 @@ module _ {scan : Scan} {view volume working start n : ℕ} {L : Landing} (answer
 module _ {V : Type 0} {o : Ops V} (laws : Laws o) {scan : Scan} {view start n : ℕ} {L : Landing} (f : V) (volume working : List V) (answered : Answered scan view (length volume) (length working) start n L) where
   pub forward_leaves : (ys : List V) → length ys ≡ length (part start n working) → Gained o f volume (weights Forward (weight L)) (part start n working) ys
       → put_mid start ((start + n) - start) working ys ≡ unless_refused (call_check (system_of scan) view (length volume) (length working)) (forward o (system_of scan) view f volume working) working
-  forward_leaves = rw (answered.lands, answered.start_is, answered.cells_are, answered.accepted) (forward_is laws (system_of scan) view f volume working (accepted answered))
+  forward_leaves = rw (answered.lands, answered.start_is, answered.cells_are, answered.accepted) (forward_is laws (system_of scan) view f volume working answered.accepted)
 
   pub back_leaves : (new : List V) → length new ≡ length volume → Gained o f (part start n working) (weights Back (weight L)) volume new
       → new ≡ unless_refused (call_check (system_of scan) view (length volume) (length working)) (back o (system_of scan) view f working volume) volume
-  back_leaves = rw (answered.lands, answered.start_is, answered.cells_are, answered.accepted) (back_is laws (system_of scan) view f volume working (accepted answered))
+  back_leaves = rw (answered.lands, answered.start_is, answered.cells_are, answered.accepted) (back_is laws (system_of scan) view f volume working answered.accepted)

@@ -24,15 +24,21 @@ module _ (s : System) (view volume working : ℕ) where
   from_accepted e = record { known = grind arith; voxels = grind arith; cells = grind arith }
 
   -- the view's last cell lies in the working store
-  pub accepted_end : Accepted → view * s.cells + s.cells ≤ working
-  accepted_end a = let r = row_end view s.views s.cells a.known in omega arith
+  pub accepted_end : call_check s view volume working ≡ None → view * s.cells + s.cells ≤ working
+  accepted_end none =
+      let a = from_accepted none in
+      let r = row_end view s.views s.cells a.known in
+      omega arith
 
-module _ {V : Type 0} {o : Ops V} (laws : Laws o) (s : System) (v : ℕ) (f : V) (volume working : List V) (accepted : Accepted s v (length volume) (length working)) where
+module _ {V : Type 0} {o : Ops V} (laws : Laws o) (s : System) (v : ℕ) (f : V) (volume working : List V) (none : call_check s v (length volume) (length working) ≡ None) where
+  abbrev accepted : Accepted s v (length volume) (length working)
+  accepted = from_accepted s v (length volume) (length working) none
+
   abbrev start : ℕ
   start = v * s.cells
 
   within : start + s.cells ≤ length working
-  within = accepted_end s v (length volume) (length working) accepted
+  within = accepted_end s v (length volume) (length working) none
 
   abbrev cells_of : List V
   cells_of = part start s.cells working
@@ -54,8 +60,9 @@ module _ {V : Type 0} {o : Ops V} (laws : Laws o) (s : System) (v : ℕ) (f : V)
   pub back_is : (new : List V) → length new ≡ length volume → Gained o f cells_of (λ c x. s.weight v x c) volume new → new ≡ back o s v f working volume
   unfolding back
   back_is new len gained =
-      fill_by_all _ new s.voxels o.zero (len ∙ accepted.voxels)
-      (λ x l.
+      let voxels = accepted.voxels in
       let size = length_part start s.cells working within in
+      fill_by_all _ new s.voxels o.zero (len ∙ voxels)
+      (λ x l.
       rw size at (gained.gain x (omega arith))
       ∙ ap (λ u. o.plus (at o volume x) (o.times f u)) (sum_same laws s.cells _ _ (λ c k. ap (λ a. o.multiple a (s.weight v x c)) (at_part start s.cells working o.zero c k))))

@@ -2,7 +2,7 @@ use Rattle.std.proofs.Common.{◌≡◌, None, arith}
 use Rattle.scan.specs.Meanings.{plan_of}
 use Rattle.scan.specs.Plans.{panel_of}
 use Rattle.sweeps.specs.Calls.{system_of, call_check}
-use Rattle.sweeps.proofs.Places.{from_accepted, accepted_end}
+use Rattle.sweeps.proofs.Places.{accepted_end}
 use Rattle.sweeps.proofs.call.checked.Goals as goal
 
 pub returns : goal.returns
@@ -15,6 +15,6 @@ returns c =
       accepted = none;
       start_is = rw cells;
       cells_are = cells;
-      within = rw cells (accepted_end (system_of scan) c.args.view c.args.volume c.args.working (from_accepted (system_of scan) c.args.view c.args.volume c.args.working none));
+      within = rw cells (accepted_end (system_of scan) c.args.view c.args.volume c.args.working none);
       lands = grind arith;
     }
