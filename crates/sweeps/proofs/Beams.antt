@@ -24,6 +24,7 @@ pub voxel_place : (a : SlabAxis) (s c l j i : ℕ) →
 voxel_place X s c l j i = omega (arith, add-mul (l * c) i s, mul_assoc l c s)
 voxel_place Y s c l j i = omega (arith, add-mul (l * s) j c, mul_assoc l s c, mul-one i)
 
+-- that place lies in the volume
 voxel_below : (a : SlabAxis) (s c h l j i : ℕ) → l < h → j < s → i < c →
     by_slabs a ((l * c + i) * s + j) ((l * s + j) * c + i) < h * by_slabs a c s * by_slabs a s c
 voxel_below X s c h l j i lh js ic = digits_lt (digits_lt lh ic) js
@@ -37,6 +38,7 @@ module _ (L : Landing) where
   cell_inside : (k m : ℕ) → k < L.columns → m < L.rows → k + m * L.columns < cells L
   cell_inside k m kc mr = let h = digits_lt mr kc in omega arith
 
+-- a volume has at most 2^27 voxels
 volume_most : (a : SlabAxis) (s c h : ℕ) → s ≤ 512 → c ≤ 512 → h ≤ 512 → h * by_slabs a c s * by_slabs a s c ≤ 2 ^ 27
 volume_most X s c h ls lc lh = mul-le-mul (mul-le-mul lh lc) ls
 volume_most Y s c h ls lc lh = mul-le-mul (mul-le-mul lh ls) lc
@@ -49,6 +51,7 @@ line_most {L = L} {slab = slab} sound sl l lh =
     let m = volume_most L.along L.slabs L.crosses L.heights sound.slabs.1 sound.crosses.1 sound.heights.1 in
     rw (sl.start, sl.rise) (omega (arith, zero-mul (slab_stride L)))
 
+-- strips of the volume and of the view's cells lie in the stores of a pass, whichever is read
 placed : (way : Way) (L : Landing) (from to : ℕ) (s t : Strip) → Inside s (voxels L) → Inside t (cells L) → Lengths way L from to → Placed way s t from to
 placed Forward L from to s t a b z = (rw z.0 a, rw z.1 b)
 placed Back L from to s t a b z = (rw z.0 b, rw z.1 a)
@@ -65,17 +68,21 @@ record Stands (s : Strip) (start stride : ℕ) (w : ℕ → ℕ) (n : ℕ) : Typ
   overlaps : (i : ℕ) → i < n → cell_overlap s i ≡ w i
 
 module _ {s : Strip} {start stride : ℕ} {w : ℕ → ℕ} {n : ℕ} (st : Stands s start stride w n) where
+  -- its shares are the numbers w, laid on its places
   stands_laid : (p : ℕ) → strip_share s p ≡ laid start stride w n p
   unfolding laid
   stands_laid p =
       rw (st.start_is, st.stride_is, st.cells_are) (sum_same naturals_laws n _ _ (λ i l. ap (λ v. if p == start + i * stride then v else 0) (st.overlaps i l)))
 
+  -- it lies in a store that has those places
   stands_inside : (m : ℕ) → ((i : ℕ) → i < n → start + i * stride < m) → Inside s m
   stands_inside m h i l = let c = st.cells_are in rw (st.start_is, st.stride_is) (h i (omega arith))
 
+  -- its run is empty: none of the numbers counts
   stands_none : s.last ≤ s.first → (p : ℕ) → laid start stride w n p ≡ 0
   stands_none h p = sym (stands_laid p) ∙ laid_zero s.line.start s.line.stride (cell_overlap s) (strip_cells s) p (share_empty s h)
 
+-- a voxel or a cell that is not there has no weight
 module _ (L : Landing) (j k l x c : ℕ) where
   pub no_voxels : voxel_share L j k l x ≡ 0 → beam_weight L j k l x c ≡ 0
   unfolding beam_weight
@@ -86,6 +93,7 @@ module _ (L : Landing) (j k l x c : ℕ) where
   no_cells e = ap (λ b. voxel_share L j k l x * b) e ∙ mul-zero _
 
 module _ {L : Landing} {slab : Slab} {column : Column} (sl : SlabOf L slab) (co : ColumnOf L column) where
+  -- over the column's stretch, the cross cells of the slab overlap as the definitions say
   cross_is : (s : Strip) → s.line.edges ≡ slab.lowest.edges → s.over ≡ column.over → (i : ℕ) → i < L.crosses → cell_overlap s i ≡ cross_overlap L slab.number i column.number
   unfolding cross_overlap
   cross_is s edges over i l =
@@ -103,12 +111,14 @@ module _ {L : Landing} {slab : Slab} {column : Column} (sl : SlabOf L slab) (co 
       (laid_zero _ _ _ L.crosses x (λ i ic. sym (cross_is s (ap (λ line. line.edges) v.line) v.over i ic) ∙ share_empty s h i (omega arith))))
 
   module _ {l : ℕ} (lh : l < L.heights) where
+    -- over the stretch of a height, so do the rows of the column
     row_is : {s : Strip} → CellLine slab column l s → (m : ℕ) → m < L.rows → cell_overlap s m ≡ height_overlap L slab.number l column.number m
     unfolding height_overlap
     row_is v m mr =
         rw (v.line, v.low, v.high, co.rows.1 m (omega arith), co.rows.1 (m + 1) (omega arith), sl.heights.1 l (omega arith), sl.heights.1 (l + 1) (omega arith))
         (overlap_sym (L.T column.number m) (L.T column.number (m + 1)) (L.W slab.number l) (L.W slab.number (l + 1)))
 
+    -- the line of voxels, and the line of cells
     voxels_stand : {s : Strip} → VoxelLine slab column l s → Stands s (slab_start L slab.number + l * rise L) (slab_stride L) (λ i. cross_overlap L slab.number i column.number) L.crosses
     voxels_stand {s = s} v =
         record {
@@ -137,6 +147,7 @@ module _ {L : Landing} {slab : Slab} {column : Column} (sl : SlabOf L slab) (co 
       unfolding beam_weight
       beam_is x c = ap₂ (λ a b. a * b) (stands_laid (voxels_stand vs) x) (stands_laid (cells_stand ct) c)
 
+      -- the two lines lie in the stores of a pass
       pub beam_placed : (way : Way) (from to : ℕ) → Lengths way L from to → Placed way s t from to
       beam_placed way from to =
           placed way L from to s t

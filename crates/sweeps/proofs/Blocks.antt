@@ -29,6 +29,7 @@ module _ {L : Landing} {first count : ℕ} {columns rows : List ℤ} (bo : Block
         λ m h. at_part (d * width) width rows (pos 0) m h ∙ bo.rows_are.1 (d * width + m) (omega arith) ∙ ap₂ (λ k n. L.T (first + k) n) (digits_div d h) (digits_mod d h),
       )
 
+  -- a column with that part, and with its stretch from the other table
   pub block_column : (c : Column) → c.number ≡ first + d → c.cells.start ≡ c.number → c.cells.stride ≡ L.columns
       → c.over.low ≡ int_min (slice_index_or columns d (pos 0)) (slice_index_or columns (d + 1) (pos 0))
       → c.over.high ≡ int_max (slice_index_or columns d (pos 0)) (slice_index_or columns (d + 1) (pos 0))

@@ -29,6 +29,7 @@ unfolding landing
 view_cells scan view = refl
 
 module _ {scan : Scan} {view volume working start n : ℕ} {L : Landing} (answered : Answered scan view volume working start n L) where
+  -- the volume, and the view's part of the working store, have the lengths of its landing
   pub volume_sized : volume ≡ voxels L
   volume_sized = let a = from_accepted (system_of scan) view volume working answered.accepted in rw answered.lands (a.voxels ∙ sym (view_voxels scan view))
 
@@ -38,10 +39,12 @@ module _ {scan : Scan} {view volume working start n : ℕ} {L : Landing} (answer
       rw (answered.lands, view_cells) (length_part start n xs (omega arith) ∙ answered.cells_are)
 
 module _ {V : Type 0} {o : Ops V} (laws : Laws o) {scan : Scan} {view start n : ℕ} {L : Landing} (f : V) (volume working : List V) (answered : Answered scan view (length volume) (length working) start n L) where
+  -- what forward leaves in the working store
   pub forward_leaves : (ys : List V) → length ys ≡ length (part start n working) → Gained o f volume (weights Forward (weight L)) (part start n working) ys
       → put_mid start ((start + n) - start) working ys ≡ unless_refused (call_check (system_of scan) view (length volume) (length working)) (forward o (system_of scan) view f volume working) working
   forward_leaves = rw (answered.lands, answered.start_is, answered.cells_are, answered.accepted) (forward_is laws (system_of scan) view f volume working answered.accepted)
 
+  -- what back leaves in the volume
   pub back_leaves : (new : List V) → length new ≡ length volume → Gained o f (part start n working) (weights Back (weight L)) volume new
       → new ≡ unless_refused (call_check (system_of scan) view (length volume) (length working)) (back o (system_of scan) view f working volume) volume
   back_leaves = rw (answered.lands, answered.start_is, answered.cells_are, answered.accepted) (back_is laws (system_of scan) view f volume working answered.accepted)

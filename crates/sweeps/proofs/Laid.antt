@@ -10,6 +10,7 @@ use Rattle.sweeps.specs.declared.strip.Strip.{Strip}
 use Rattle.sweeps.proofs.Naturals.{naturals_laws}
 
 module _ (start stride : ℕ) (w : ℕ → ℕ) where
+  -- what place p gets of number n
   abbrev here : ℕ → ℕ → ℕ
   here n p = if p == start + n * stride then w n else 0
 
@@ -28,12 +29,14 @@ module _ (start stride : ℕ) (w : ℕ → ℕ) where
   unfolding laid
   laid_none n p h = sum_none naturals_laws n (λ i. here i p) h
 
+  -- p is none of the places
   pub laid_miss : (n p : ℕ) → ((i : ℕ) → i < n → p ≡ start + i * stride → ⊥) → laid start stride w n p ≡ 0
   laid_miss n p h = laid_none n p (λ i l. here_miss i p (h i l))
 
   zero_here : (i p : ℕ) → w i ≡ 0 → here i p ≡ 0
   zero_here i p e = ⊎_elim (λ q. here_hit i p q ∙ e) (here_miss i p) (cases_eq p (start + i * stride))
 
+  -- the numbers are all 0
   pub laid_zero : (n p : ℕ) → ((i : ℕ) → i < n → w i ≡ 0) → laid start stride w n p ≡ 0
   laid_zero n p h = laid_none n p (λ i l. zero_here i p (h i l))
 
@@ -48,25 +51,29 @@ module _ (start stride : ℕ) (w : ℕ → ℕ) where
   laid_only n k p lt e h = sum_only naturals_laws n k (λ i. here i p) lt (λ i l ne. here_miss i p (h i l ne)) ∙ here_hit k p e
 
 module _ {V : Type 0} {o : Ops V} (laws : Laws o) (s : Strip) (xs : List V) where
+  -- what place p gets of the overlap of the strip's cell n
   abbrev here_share : ℕ → ℕ → ℕ
   here_share n p = here s.line.start s.line.stride (cell_overlap s) n p
 
   share_more : (n p : ℕ) → first_share s (n + 1) p ≡ first_share s n p + here_share n p
   share_more = laid_more s.line.start s.line.stride (cell_overlap s)
 
+  -- no cell before the run overlaps
   share_none : (p : ℕ) → first_share s s.first p ≡ 0
   share_none p = laid_zero s.line.start s.line.stride (cell_overlap s) s.first p s.covers.before
 
+  -- nor does one after it
   share_all : (n p : ℕ) → n ≡ s.last → strip_share s p ≡ first_share s n p
   share_all n p e = let ends = s.covers.ends in laid_past s.line.start s.line.stride (cell_overlap s) (strip_cells s) n p (omega arith) (λ i a b. s.covers.after i (omega arith) b)
 
-  -- what the first n cells of the strip hold, each taken as often as its number says
+  -- what the first n cells of the strip hold, each taken as often as it overlaps
   abbrev gathered : ℕ → V
   gathered n = total o xs (first_share s n)
 
   pub gather_none : gathered s.first ≡ o.zero
   gather_none = sum_none laws (length xs) _ (λ q l. multiple_none laws (at o xs q) _ (share_none q))
 
+  -- a cell more
   pub gather_more : (n : ℕ) (all x : V) → place s n < length xs → all ≡ gathered n → x ≡ o.multiple (at o xs (place s n)) (cell_overlap s n) → o.plus all x ≡ gathered (n + 1)
   gather_more n all x lt e f =
       let k = place s n in
@@ -77,16 +84,18 @@ module _ {V : Type 0} {o : Ops V} (laws : Laws o) (s : Strip) (xs : List V) wher
       ∙ sym (sum_plus laws (length xs) _ _)
       ∙ sum_same laws (length xs) _ _ (λ q l. sym (multiple_add laws (at o xs q) (first_share s n q) (here_share n q)) ∙ ap (o.multiple (at o xs q)) (sym (share_more n q)))
 
+  -- the whole run
   pub gather_all : (n : ℕ) → n ≡ s.last → gathered n ≡ total o xs (strip_share s)
   gather_all n e = sum_same laws (length xs) _ _ (λ q l. ap (o.multiple (at o xs q)) (sym (share_all n q e)))
 
-  -- the first n cells of the strip have gained v, each as often as its number says
+  -- the first n cells of the strip have gained v, each as often as it overlaps
   abbrev pub Scattered : V → ℕ → List V → Type 0
   Scattered v n ys = (p : ℕ) → p < length xs → at o ys p ≡ o.plus (at o xs p) (o.multiple v (first_share s n p))
 
   pub scatter_none : (v : V) → Scattered v s.first xs
   scatter_none v p l = sym (plus_none laws (at o xs p) _ (multiple_none laws v _ (share_none p)))
 
+  -- a cell more
   pub scatter_more : (v : V) (n : ℕ) (ys : List V) (y : V) → place s n < length ys → Scattered v n ys → y ≡ o.plus (at o ys (place s n)) (o.multiple v (cell_overlap s n)) → Scattered v (n + 1) (set ys (place s n) y)
   scatter_more v n ys y lt inv e p l =
       let k = place s n in
@@ -101,5 +110,6 @@ module _ {V : Type 0} {o : Ops V} (laws : Laws o) (s : Strip) (xs : List V) wher
       ∙ laws.plus_assoc (at o xs p) (o.multiple v (first_share s n p)) (o.multiple v (here_share n p))
       ∙ ap (o.plus (at o xs p)) (sym (multiple_add laws v (first_share s n p) (here_share n p)) ∙ ap (o.multiple v) (sym (share_more n p)))
 
+  -- the whole run
   pub scatter_all : (v : V) (n : ℕ) (ys : List V) → n ≡ s.last → Scattered v n ys → Scattered v (strip_cells s) ys
   scatter_all v n ys e inv p l = inv p l ∙ ap (λ k. o.plus (at o xs p) (o.multiple v k)) (sym (share_all n p e))

@@ -21,6 +21,7 @@ each_way : (way : Way) (q p : ℕ) (P : ((ℕ → ℕ → ℕ) → ℕ) → Type
 each_way Forward q p P forth back = forth
 each_way Back q p P forth back = back
 
+-- weights that are the same of all voxels and cells are so in that order
 weights_within : (way : Way) (L : Landing) (from to : ℕ) (M N : ℕ → ℕ → ℕ) → Lengths way L from to → ((x c : ℕ) → x < voxels L → c < cells L → M x c ≡ N x c) → (q p : ℕ) → q < from → p < to → weights way M q p ≡ weights way N q p
 weights_within Forward L from to M N z h q p a b = let e = z.0 in let f = z.1 in h q p (omega arith) (omega arith)
 weights_within Back L from to M N z h q p a b = let e = z.0 in let f = z.1 in h p q (omega arith) (omega arith)

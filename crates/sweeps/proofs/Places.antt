@@ -40,6 +40,7 @@ module _ {V : Type 0} {o : Ops V} (laws : Laws o) (s : System) (v : ℕ) (f : V)
   within : start + s.cells ≤ length working
   within = accepted_end s v (length volume) (length working) none
 
+  -- the view's cells
   abbrev cells_of : List V
   cells_of = part start s.cells working
 

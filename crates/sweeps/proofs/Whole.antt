@@ -27,6 +27,7 @@ block_more L first n x c =
     ap (λ u. summed (whole_column L) first x c + u) (sum_swap naturals_laws L.slabs n (λ j d. column_weight L j (first + d) x c))
     ∙ sym (sum_split naturals_laws first n (λ k. whole_column L k x c))
 
+-- an axis has cells, whichever it is
 some_cells : (a : SlabAxis) (s c : ℕ) → 1 ≤ s → 1 ≤ c → 0 < by_slabs a s c
 some_cells X s c s1 c1 = s1
 some_cells Y s c s1 c1 = c1
@@ -97,6 +98,7 @@ module _ (L : Landing) (sound : Sound L) (x c : ℕ) (xv : x < voxels L) (cc : c
   slab_is_below : j' < L.slabs
   slab_is_below = slab_below L.slabs L.crosses x L.along sound.slabs.0 sound.crosses.0
 
+  -- on its own line it has its overlap
   voxel_here : (k : ℕ) → voxel_share L j' k l' x ≡ cross_overlap L j' i' k
   voxel_here k =
       laid_only (slab_start L j' + l' * rise L) (slab_stride L) (λ i. cross_overlap L j' i k) L.crosses i' x
@@ -119,6 +121,7 @@ module _ (L : Landing) (sound : Sound L) (x c : ℕ) (xv : x < voxels L) (cc : c
   column_below : k' < L.columns
   column_below = mod-lt c sound.columns.0
 
+  -- in its own column it has its overlap
   cell_here : (j l : ℕ) → cell_share L j k' l c ≡ height_overlap L j l k' m'
   cell_here j l =
       laid_only k' L.columns (λ m. height_overlap L j l k' m) L.rows m' c row_below
