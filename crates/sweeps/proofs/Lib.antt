@@ -1,3 +1,4 @@
+pub mod Parts
 pub mod Naturals
 pub mod Laid
 pub mod Gains
@@ -7,5 +8,4 @@ pub mod Levels
 pub mod Blocks
 pub mod Whole
 pub mod Places
-pub mod Verdicts
 pub mod CallFacts

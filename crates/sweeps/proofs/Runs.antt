@@ -1,10 +1,9 @@
 -- The run of a strip holds every cell that overlaps its stretch.
-use Rattle.std.proofs.Common.{◌≡◌, ℕ, zero, suc, ◌+◌, ◌-◌, ◌<◌, ◌≤◌, Option, Some, None, List, length, slice_index_or, ℤ, pos, ◌≤ℤ◌, ⊎_elim, arith}
+use Rattle.std.proofs.Common.{◌≡◌, ℕ, zero, suc, ◌+◌, ◌-◌, ◌<◌, ◌≤◌, Option, Some, None, List, length, slice_index_or, ℤ, pos, ◌≤ℤ◌, ◌<ℤ◌, arith}
 use Rattle.std.specs.Option.{MatchOption, unwrap_or}
-use lib.Signed.{≤ℤ_refl}
-use borrow.Author.Differences.{ints}
-use Rattle.std.proofs.lemmas.Bool.{cases_lt}
-use Rattle.sweeps.specs.Runs.{share, Rising}
+use Rattle.std.specs.Int.Signed.{≤ℤ_refl}
+use Rattle.std.proofs.lemmas.Int.{ints}
+use Rattle.sweeps.specs.Runs.{share, Rising, Covers}
 use Rattle.geometry.proofs.Overlaps.{overlap_low, overlap_high, overlap_sym, overlap_most}
 
 -- up to the first number of a range that passes, or to the range's end where none does, no number passes
@@ -25,33 +24,27 @@ module _ (es : List ℤ) (rises : Rising es) where
       rw e (omega (arith, ints))
 
   -- edges by number, one not below another
-  pub edge_le : (i j : ℕ) → i ≤ j → j < length es → edge i ≤ℤ edge j
+  edge_le : (i j : ℕ) → i ≤ j → j < length es → edge i ≤ℤ edge j
   edge_le i j le l = let e : i + (j - i) ≡ j = omega arith in rw e at (climbs i (j - i) (omega arith))
 
   -- up to `down` by its edge, and from there up to `first` one by one
   pub edges_before : (low : ℤ) (down first : ℕ) → down ≤ first → first < length es → (0 < down → edge down ≤ℤ low) → ((i : ℕ) → down ≤ i → i < first → edge (i + 1) ≤ℤ low) → (i : ℕ) → i < first → edge (i + 1) ≤ℤ low
   edges_before low down first le l below passed i h =
-      ⊎_elim
-      (λ lt. let a = edge_le (i + 1) down (omega arith) (omega arith) in let b = below (omega arith) in omega (arith, ints))
-      (λ ge. passed i ge h)
-      (cases_lt i down)
+      let up : i < down → edge (i + 1) ≤ℤ edge down = λ lt. edge_le (i + 1) down (omega arith) (omega arith) in
+      grind (arith, ints, up, passed)
 
-  module _ (low high : ℤ) (ordered : low ≤ℤ high) where
-    pub share_low : (i : ℕ) → i < length es - 1 → edge (i + 1) ≤ℤ low → share es low high i ≡ 0
-    share_low i l h = overlap_low (edge i) (edge (i + 1)) low high (rises i l) ordered h
-
-    pub share_high : (i : ℕ) → i < length es - 1 → high ≤ℤ edge i → share es low high i ≡ 0
-    share_high i l h = overlap_high (edge i) (edge (i + 1)) low high (rises i l) ordered h
-
-    pub after_run : (last : ℕ) → (last + 1 < length es → high ≤ℤ edge last) → (i : ℕ) → last ≤ i → i < length es - 1 → share es low high i ≡ 0
-    after_run last beyond i le l =
-        let a = edge_le last i le (omega arith) in
-        let b = beyond (omega arith) in
-        share_high i l (omega (arith, ints))
-
-    -- nothing overlaps an empty stretch
-    pub share_none : high ≤ℤ low → (i : ℕ) → share es low high i ≡ 0
-    share_none h i =
-        let e = overlap_sym (edge i) (edge (i + 1)) low high in
-        let most = overlap_most low high (edge i) (edge (i + 1)) in
-        omega (arith, ints)
+  -- a run ends at the first cell past the stretch, or is empty where the stretch is
+  pub covers_run : (low high : ℤ) → low ≤ℤ high → (first last : ℕ) → first ≤ last → last < length es → ((i : ℕ) → i < first → edge (i + 1) ≤ℤ low) → (low <ℤ high → last + 1 < length es → high ≤ℤ edge last) → Covers es low high first last
+  covers_run low high ordered first last run ends passed beyond =
+      record {
+        run = run;
+        ends = omega arith;
+        before = λ i h. overlap_low (edge i) (edge (i + 1)) low high (rises i (omega arith)) ordered (passed i h);
+        after = λ i le l.
+            let high_is : high ≤ℤ edge i → share es low high i ≡ 0 = overlap_high (edge i) (edge (i + 1)) low high (rises i l) ordered in
+            let a = edge_le last i le (omega arith) in
+            let b : low <ℤ high → high ≤ℤ edge last = λ h. beyond h (omega arith) in
+            let e = overlap_sym (edge i) (edge (i + 1)) low high in
+            let most = overlap_most low high (edge i) (edge (i + 1)) in
+            grind (arith, ints, high_is, b);
+      }

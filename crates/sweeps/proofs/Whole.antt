@@ -1,49 +1,44 @@
 -- The weights of all slabs, columns and heights together are the weights of voxels and cells.
-use Rattle.std.proofs.Common.{◌≡◌, ℕ, ◌+◌, ◌*◌, ◌/◌, ◌%◌, ◌<◌, ◌≤◌, ◌≢◌, sym, ap, ◌∙◌, ap₂, mod-lt, div-lt_iff_lt-mul, mul-zero, div-add-mod', zero-mul, arith}
-use lib.Arith.{digits_div, digits_mod}
+use Rattle.std.proofs.Common.{◌≡◌, ℕ, List, length, ◌+◌, ◌*◌, ◌/◌, ◌%◌, ◌<◌, ◌≤◌, ◌≢◌, refl, sym, ap, ◌∙◌, ap₂, mod-lt, arith}
+use Rattle.std.proofs.lemmas.Nat.{div_below, div-add-mod'}
+use Rattle.std.proofs.Math.Arith.{digits_div, digits_mod}
 use Rattle.geometry.specs.declared.direction.SlabAxis.{SlabAxis}
 use Rattle.geometry.specs.declared.direction.SlabAxis.TheVariants.{X, Y}
 use Rattle.values.specs.Sums.{sum}
 use Rattle.values.proofs.Sums.{sum_none, sum_only, sum_swap, sum_split}
 use Rattle.scan.specs.Landing.{Landing, Sound, by_slabs, nx, ny, voxels, cells, slab_of, cross_of, height_of, cross_overlap, height_overlap, weight}
-use Rattle.sweeps.specs.Strips.{naturals, laid}
-use Rattle.sweeps.specs.Passes.{slab_start, slab_stride, rise, beam_weight, column_weight, slab_weight, block_weight}
+use Rattle.sweeps.specs.Strips.{naturals}
+use Rattle.values.specs.Laws.{Ops, Laws}
+use Rattle.sweeps.specs.declared.pass.Pass.{Pass}
+use Rattle.sweeps.specs.Passes.{Sized, Swept, slab_start, slab_stride, rise, voxel_share, cell_share, beam_weight, column_weight, slab_weight, block_weight}
 use Rattle.sweeps.proofs.Naturals.{naturals_laws}
-use Rattle.sweeps.proofs.Beams.{voxel_place}
-use Rattle.sweeps.proofs.Laid.{laid_none, laid_only, here_miss}
-use Rattle.sweeps.proofs.Levels.{summed}
+use Rattle.sweeps.proofs.Beams.{voxel_place, no_voxels, no_cells}
+use Rattle.sweeps.proofs.Laid.{laid_only, laid_miss}
+use Rattle.sweeps.proofs.Levels.{summed, swept_joined, swept_within}
 
 -- what a voxel and a cell have of their weight in column k, over all slabs
 abbrev pub whole_column : Landing → ℕ → ℕ → ℕ → ℕ
 whole_column L k x c = sum naturals L.slabs (λ j. column_weight L j k x c)
 
 -- a block after the columns before it
-pub block_more : (L : Landing) (first n x c : ℕ) → summed (whole_column L) first x c + block_weight L first n x c ≡ summed (whole_column L) (first + n) x c
+block_more : (L : Landing) (first n x c : ℕ) → summed (whole_column L) first x c + block_weight L first n x c ≡ summed (whole_column L) (first + n) x c
 unfolding block_weight slab_weight
 block_more L first n x c =
     ap (λ u. summed (whole_column L) first x c + u) (sum_swap naturals_laws L.slabs n (λ j d. column_weight L j (first + d) x c))
     ∙ sym (sum_split naturals_laws first n (λ k. whole_column L k x c))
 
-div_below : (x k y : ℕ) → 0 < k → x < y * k → x / k < y
-div_below x k y p h = (div-lt_iff_lt-mul p).1 h
-
+-- an axis has cells, whichever it is
 some_cells : (a : SlabAxis) (s c : ℕ) → 1 ≤ s → 1 ≤ c → 0 < by_slabs a s c
 some_cells X s c s1 c1 = s1
 some_cells Y s c s1 c1 = c1
 
--- a place of a table, by its row and column
-two_digits : (x n : ℕ) → x / n * n + x % n ≡ x
-two_digits x n = div-add-mod' x n
-
 module _ (x a b : ℕ) where
   -- the place of three digits, the last below a and the middle below b
   encoded : (x / a / b * b + x / a % b) * a + x % a ≡ x
-  encoded = ap (λ q. q * a + x % a) (two_digits (x / a) b) ∙ two_digits x a
+  encoded = ap (λ q. q * a + x % a) (div-add-mod' (x / a) b) ∙ div-add-mod' x a
 
-  decoded : (l i j : ℕ) → i < b → j < a → x ≡ (l * b + i) * a + j → (x % a ≡ j) × ((x / a % b ≡ i) × (x / a / b ≡ l))
-  decoded l i j ib ja e =
-      let q : x / a ≡ l * b + i = ap (λ y. y / a) e ∙ digits_div (l * b + i) ja in
-      (ap (λ y. y % a) e ∙ digits_mod (l * b + i) ja, (ap (λ y. y % b) q ∙ digits_mod l ib, ap (λ y. y / b) q ∙ digits_div l ib))
+  decoded : (l i j : ℕ) → i < b → j < a → x ≡ (l * b + i) * a + j → (j ≡ x % a) × ((i ≡ x / a % b) × (l ≡ x / a / b))
+  decoded l i j ib ja e = rw (e, digits_mod (l * b + i) ja, digits_div (l * b + i) ja, digits_mod l ib, digits_div l ib) (refl, (refl, refl))
 
 -- the same of a voxel's place, whichever axis the slabs are along: s slabs, c cross cells
 module _ (s c x : ℕ) where
@@ -61,8 +56,8 @@ module _ (s c x : ℕ) where
   voxel_encoded Y = sym (encoded x c s)
 
   voxel_decoded : (a : SlabAxis) (l j i : ℕ) → j < s → i < c → x ≡ by_slabs a ((l * c + i) * s + j) ((l * s + j) * c + i) → (j ≡ slab a) × ((i ≡ cross a) × (l ≡ height a))
-  voxel_decoded X l j i js ic e = let d = decoded x s c l i j ic js e in (sym d.0, (sym d.1.0, sym d.1.1))
-  voxel_decoded Y l j i js ic e = let d = decoded x c s l j i js ic e in (sym d.1.0, (sym d.0, sym d.1.1))
+  voxel_decoded X l j i js ic e = decoded x s c l i j ic js e
+  voxel_decoded Y l j i js ic e = let d = decoded x c s l j i js ic e in (d.1.0, (d.0, d.1.1))
 
   slab_below : (a : SlabAxis) → 1 ≤ s → 1 ≤ c → slab a < s
   slab_below X s1 c1 = mod-lt x s1
@@ -88,13 +83,6 @@ module _ (L : Landing) (sound : Sound L) (x c : ℕ) (xv : x < voxels L) (cc : c
   abbrev m' : ℕ
   m' = c / L.columns
 
-  -- the voxels' part and the cells' part of a beam
-  abbrev A : ℕ → ℕ → ℕ → ℕ
-  A j k l = laid (slab_start L j + l * rise L) (slab_stride L) (λ i. cross_overlap L j i k) L.crosses x
-
-  abbrev B : ℕ → ℕ → ℕ → ℕ
-  B j k l = laid k L.columns (λ m. height_overlap L j l k m) L.rows c
-
   height_below : l' < L.heights
   height_below =
       div_below (x / nx L) (ny L) L.heights (some_cells L.along L.crosses L.slabs sound.crosses.0 sound.slabs.0)
@@ -107,66 +95,67 @@ module _ (L : Landing) (sound : Sound L) (x c : ℕ) (xv : x < voxels L) (cc : c
   of_line : (j l i : ℕ) → j < L.slabs → i < L.crosses → x ≡ slab_start L j + l * rise L + i * slab_stride L → (j ≡ j') × ((i ≡ i') × (l ≡ l'))
   of_line j l i js ic e = voxel_decoded L.slabs L.crosses x L.along l j i js ic (e ∙ voxel_place L.along L.slabs L.crosses l j i)
 
-  A_here : (k : ℕ) → A j' k l' ≡ cross_overlap L j' i' k
-  A_here k =
+  slab_is_below : j' < L.slabs
+  slab_is_below = slab_below L.slabs L.crosses x L.along sound.slabs.0 sound.crosses.0
+
+  -- on its own line it has its overlap
+  voxel_here : (k : ℕ) → voxel_share L j' k l' x ≡ cross_overlap L j' i' k
+  voxel_here k =
       laid_only (slab_start L j' + l' * rise L) (slab_stride L) (λ i. cross_overlap L j' i k) L.crosses i' x
       (cross_below L.slabs L.crosses x L.along sound.slabs.0 sound.crosses.0)
       (voxel_encoded L.slabs L.crosses x L.along ∙ sym (voxel_place L.along L.slabs L.crosses l' j' i'))
-      (λ i ic ne e. ne (of_line j' l' i (slab_below L.slabs L.crosses x L.along sound.slabs.0 sound.crosses.0) ic e).1.0)
+      (λ i ic ne e. ne (of_line j' l' i slab_is_below ic e).1.0)
 
-  A_slab : (j k l : ℕ) → j < L.slabs → j ≢ j' → A j k l ≡ 0
-  A_slab j k l js ne =
-      laid_none (slab_start L j + l * rise L) (slab_stride L) (λ i. cross_overlap L j i k) L.crosses x
-      (λ i ic. here_miss (slab_start L j + l * rise L) (slab_stride L) (λ i. cross_overlap L j i k) i x (λ e. ne (of_line j l i js ic e).0))
-
-  A_height : (k l : ℕ) → l ≢ l' → A j' k l ≡ 0
-  A_height k l ne =
-      laid_none (slab_start L j' + l * rise L) (slab_stride L) (λ i. cross_overlap L j' i k) L.crosses x
-      (λ i ic. here_miss (slab_start L j' + l * rise L) (slab_stride L) (λ i. cross_overlap L j' i k) i x
-      (λ e. ne (of_line j' l i (slab_below L.slabs L.crosses x L.along sound.slabs.0 sound.crosses.0) ic e).1.1))
+  -- the voxel stands on no other line
+  voxel_miss : (j k l : ℕ) → j < L.slabs → (j ≡ j' → l ≡ l' → ⊥) → beam_weight L j k l x c ≡ 0
+  voxel_miss j k l js other =
+      no_voxels L j k l x c
+      (laid_miss _ (slab_stride L) (λ i. cross_overlap L j i k) L.crosses x (λ i ic e. let of = of_line j l i js ic e in other of.0 of.1.1))
 
   -- a cell at a column's place is the column's
   of_column : (k m : ℕ) → k < L.columns → c ≡ k + m * L.columns → (k ≡ k') × (m ≡ m')
   of_column k m kc e =
       let f : c ≡ m * L.columns + k = omega arith in
-      (sym (ap (λ y. y % L.columns) f ∙ digits_mod m kc), sym (ap (λ y. y / L.columns) f ∙ digits_div m kc))
+      rw (f, digits_mod m kc, digits_div m kc) (refl, refl)
 
   column_below : k' < L.columns
   column_below = mod-lt c sound.columns.0
 
-  B_here : (j l : ℕ) → B j k' l ≡ height_overlap L j l k' m'
-  B_here j l =
+  -- in its own column it has its overlap
+  cell_here : (j l : ℕ) → cell_share L j k' l c ≡ height_overlap L j l k' m'
+  cell_here j l =
       laid_only k' L.columns (λ m. height_overlap L j l k' m) L.rows m' c row_below
-      (let e = two_digits c L.columns in omega arith)
+      (let e = div-add-mod' c L.columns in omega arith)
       (λ m mr ne e. ne (of_column k' m column_below e).1)
 
-  B_column : (j k l : ℕ) → k < L.columns → k ≢ k' → B j k l ≡ 0
-  B_column j k l kc ne =
-      laid_none k L.columns (λ m. height_overlap L j l k m) L.rows c
-      (λ m mr. here_miss k L.columns (λ m. height_overlap L j l k m) m c (λ e. ne (of_column k m kc e).0))
-
-  beam_zero_left : (j k l : ℕ) → A j k l ≡ 0 → beam_weight L j k l x c ≡ 0
-  unfolding beam_weight
-  beam_zero_left j k l e = ap (λ a. a * B j k l) e ∙ zero-mul (B j k l)
-
-  beam_zero_right : (j k l : ℕ) → B j k l ≡ 0 → beam_weight L j k l x c ≡ 0
-  unfolding beam_weight
-  beam_zero_right j k l e = ap (λ b. A j k l * b) e ∙ mul-zero (A j k l)
+  -- the cell stands in no other column
+  cell_miss : (j k l : ℕ) → k < L.columns → k ≢ k' → beam_weight L j k l x c ≡ 0
+  cell_miss j k l kc ne =
+      no_cells L j k l x c (laid_miss k L.columns (λ m. height_overlap L j l k m) L.rows c (λ m mr e. ne (of_column k m kc e).0))
 
   other_slab : (j : ℕ) → j < L.slabs → j ≢ j' → column_weight L j k' x c ≡ 0
   unfolding column_weight
-  other_slab j js ne = sum_none naturals_laws L.heights _ (λ l lh. beam_zero_left j k' l (A_slab j k' l js ne))
+  other_slab j js ne = sum_none naturals_laws L.heights _ (λ l lh. voxel_miss j k' l js (λ e f. ne e))
 
   other_column : (k : ℕ) → k < L.columns → k ≢ k' → whole_column L k x c ≡ 0
   unfolding column_weight
   other_column k kc ne =
-      sum_none naturals_laws L.slabs _ (λ j js. sum_none naturals_laws L.heights _ (λ l lh. beam_zero_right j k l (B_column j k l kc ne)))
+      sum_none naturals_laws L.slabs _ (λ j js. sum_none naturals_laws L.heights _ (λ l lh. cell_miss j k l kc ne))
 
   -- every voxel and cell have their weight, once
-  pub whole_weight : summed (whole_column L) L.columns x c ≡ weight L x c
+  whole_weight : summed (whole_column L) L.columns x c ≡ weight L x c
   unfolding weight column_weight beam_weight
   whole_weight =
       sum_only naturals_laws L.columns k' (λ k. whole_column L k x c) column_below other_column
-      ∙ sum_only naturals_laws L.slabs j' (λ j. column_weight L j k' x c) (slab_below L.slabs L.crosses x L.along sound.slabs.0 sound.crosses.0) other_slab
-      ∙ sum_only naturals_laws L.heights l' (λ l. beam_weight L j' k' l x c) height_below (λ l lh ne. beam_zero_left j' k' l (A_height k' l ne))
-      ∙ ap₂ (λ a b. a * b) (A_here k') (B_here j' l')
+      ∙ sum_only naturals_laws L.slabs j' (λ j. column_weight L j k' x c) slab_is_below other_slab
+      ∙ sum_only naturals_laws L.heights l' (λ l. beam_weight L j' k' l x c) height_below (λ l lh ne. voxel_miss j' k' l slab_is_below (λ e f. ne f))
+      ∙ ap₂ (λ a b. a * b) (voxel_here k') (cell_here j' l')
+
+module _ {V View : Type 0} {o : Ops V} (laws : Laws o) {pass : Pass V View} (L : Landing) {old : List V} where
+  -- a sweep of the columns before a block, and one of the block
+  pub block_swept : (first n : ℕ) {mid new : List V} → length mid ≡ length old → Swept o pass (summed (whole_column L) first) old mid → Swept o pass (block_weight L first n) mid new → Swept o pass (summed (whole_column L) (first + n)) old new
+  block_swept first n len = swept_joined laws len (block_more L first n)
+
+  -- a sweep of all columns
+  pub whole_swept : Sound L → Sized L pass (length old) → {n : ℕ} {new : List V} → n ≡ L.columns → Swept o pass (summed (whole_column L) n) old new → Swept o pass (weight L) old new
+  whole_swept sound sized end s = swept_within laws L sized (whole_weight L sound) (rw end at s)

@@ -31,8 +31,8 @@ abbrev pub Sized : {V View : Type 0} → Landing → Pass V View → ℕ → Typ
 Sized L pass to = Lengths pass.way L (length pass.from.now) to
 
 -- Each target place has gained what a pass brings it by the weight M of a voxel and a cell.
-abbrev pub Swept : {V View : Type 0} → Ops V → Pass V View → (ℕ → ℕ → ℕ) → List V → List V → Type 0
-Swept o pass M old new = Gained o pass.factor pass.from.now (weights pass.way M) old new
+pub record Swept {V View : Type 0} (o : Ops V) (pass : Pass V View) (M : ℕ → ℕ → ℕ) (old new : List V) : Type 0 where
+  pub gained : Gained o pass.factor pass.from.now (weights pass.way M) old new
 
 -- The strips of voxels and of cells lie in the source and the target.
 abbrev pub Placed : Way → Strip → Strip → ℕ → ℕ → Type 0
@@ -51,11 +51,17 @@ slab_stride L = by_slabs L.along (nx L) 1
 abbrev pub rise : Landing → ℕ
 rise L = ny L * nx L
 
+-- How far voxel x overlaps column k, if it stands in slab j at height l; else 0.
+abbrev pub voxel_share : Landing → ℕ → ℕ → ℕ → ℕ → ℕ
+voxel_share L j k l x = laid (slab_start L j + l * rise L) (slab_stride L) (λ i. cross_overlap L j i k) L.crosses x
+
+-- How far cell c overlaps height l of slab j, if it stands in column k; else 0.
+abbrev pub cell_share : Landing → ℕ → ℕ → ℕ → ℕ → ℕ
+cell_share L j k l c = laid k L.columns (λ m. height_overlap L j l k m) L.rows c
+
 -- What voxel x and cell c have of their weight where slab j, column k and height l meet.
 unfoldable pub beam_weight : Landing → ℕ → ℕ → ℕ → ℕ → ℕ → ℕ
-beam_weight L j k l x c =
-    laid (slab_start L j + l * rise L) (slab_stride L) (λ i. cross_overlap L j i k) L.crosses x
-    * laid k L.columns (λ m. height_overlap L j l k m) L.rows c
+beam_weight L j k l x c = voxel_share L j k l x * cell_share L j k l c
 
 -- The same over all heights.
 unfoldable pub column_weight : Landing → ℕ → ℕ → ℕ → ℕ → ℕ
@@ -105,13 +111,11 @@ pub record CellLine (s : Slab) (c : Column) (l : ℕ) (strip : Strip) : Type 0 w
   pub low : strip.over.low ≡ slice_index_or s.heights.at.now l (pos 0)
   pub high : strip.over.high ≡ slice_index_or s.heights.at.now (l + 1) (pos 0)
 
--- The numbers and tables of some columns side by side: `columns` holds their S edges, and `rows` their T edges, `width` for each.
-pub record BlockOf (L : Landing) (first count stride width : ℕ) (columns rows : List ℤ) : Type 0 where
+-- The numbers and tables of some columns side by side: `columns` holds their S edges, and `rows` the T edges of one after another.
+pub record BlockOf (L : Landing) (first count : ℕ) (columns rows : List ℤ) : Type 0 where
   pub below : first + count ≤ L.columns
-  pub stride_is : stride ≡ L.columns
-  pub width_is : width ≡ L.rows + 1
   pub columns_are : Tabled columns (count + 1) (λ i. L.S (first + i))
-  pub rows_are : Tabled rows (count * width) (λ i. L.T (first + i / width) (i % width))
+  pub rows_are : Tabled rows (count * (L.rows + 1)) (λ i. L.T (first + i / (L.rows + 1)) (i % (L.rows + 1)))
 
 -- A call that is not refused: where the view's cells stand in the working store, and how the view lands.
 pub record Answered (scan : Scan) (view volume working start cells : ℕ) (L : Landing) : Type 0 where

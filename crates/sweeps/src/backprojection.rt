@@ -27,7 +27,7 @@ pub fn back<V: Value>(
     let call = checked(plan, view, volume.len(), working.len())?;
     let cells = &working[call.start..call.start + call.cells];
     let pass = Pass {
-        view: &call.landed,
+        view: &call.view,
         way: Way::Back,
         factor,
         from: cells,

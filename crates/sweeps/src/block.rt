@@ -14,16 +14,14 @@ use values::value::Value;
 // The most edges that an axis has.
 pub(crate) const MOST_EDGES: usize = MOST_CELLS + 1;
 
-// Some columns of a view side by side, from `first` on: their landed edges, and those of their rows, `width` for each.
+// Some columns of a view side by side, from `first` on: their landed edges, and those of the rows in each, column after column.
 #[derive(Drop)]
 pub(crate) struct Block<'a, V, L: Landed> {
     pub(crate) pass: &'a Pass<'a, V, L>,
     pub(crate) first: usize,
-    pub(crate) stride: usize,
-    pub(crate) width: usize,
     pub(crate) columns: &'a [i64],
     pub(crate) rows: &'a [i64],
-    ghost tables: { BlockOf (L.Landed.landing pass.now.view.now) first (length columns.now - 1) stride width columns.now rows.now },
+    ghost tables: { BlockOf (L.Landed.landing pass.now.view.now) first (length columns.now - 1) columns.now rows.now },
 }
 
 impl<'a, V: Value, L: Landed> Block<'a, V, L> {
@@ -76,15 +74,17 @@ impl<'a, V: Value, L: Landed> Block<'a, V, L> {
         ensures number { result.number ≡ self.now.first + offset }
         ensures column { ColumnOf (L.Landed.landing self.now.pass.now.view.now) result }
     {
-        let start = offset * self.width;
+        let view = self.pass.view;
+        let width = view.rows() + 1;
+        let start = offset * width;
         let rows = LandedEdges {
-            at: &self.rows[start..start + self.width],
+            at: &self.rows[start..start + width],
         };
         Column {
             number: self.first + offset,
             cells: Line {
                 start: self.first + offset,
-                stride: self.stride,
+                stride: view.columns(),
                 edges: rows,
             },
             over: Stretch::between(self.columns[offset], self.columns[offset + 1]),

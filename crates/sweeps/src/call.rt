@@ -13,7 +13,7 @@ use scan::view::View;
 // A view whose stores have the plan's lengths, and where its cells stand in the working store.
 #[derive(Clone, Copy)]
 pub(crate) struct Called<'a> {
-    pub(crate) landed: View<'a>,
+    pub(crate) view: View<'a>,
     pub(crate) start: usize,
     pub(crate) cells: usize,
 }
@@ -41,7 +41,7 @@ pub(crate) fn checked(
     volume: usize,
     working: usize,
 ) -> Result<Called<'_>, Refusal>
-    ensures { elim result [ Ok w ↦ Answered (plan_of plan.now) view volume working w.start w.cells (⟦<View<'static> as Landed>⟧.landing w.landed) | Err e ↦ call_check (system_of (plan_of plan.now)) view volume working ≡ Some e ] }
+    ensures { elim result [ Ok w ↦ Answered (plan_of plan.now) view volume working w.start w.cells (⟦<View<'static> as Landed>⟧.landing w.view) | Err e ↦ call_check (system_of (plan_of plan.now)) view volume working ≡ Some e ] }
 {
     let views = plan.views();
     let landed = plan.view(view).ok_or(Refusal::NoView { view, views })?;
@@ -49,7 +49,7 @@ pub(crate) fn checked(
     check_length(Store::Volume, volume, plan.voxels())?;
     check_length(Store::Working, working, views * cells)?;
     Ok(Called {
-        landed,
+        view: landed,
         start: view * cells,
         cells,
     })

@@ -1,8 +1,6 @@
 ghost use Rattle.std.specs.Prelude.{◌≡◌, ℕ, ◌*◌, ◌<◌, length};
-ghost use Rattle.values.specs.Sums.{sum};
 ghost use Rattle.sweeps.specs.Stores.{at};
-ghost use Rattle.sweeps.specs.Runs.{share};
-ghost use Rattle.sweeps.specs.Strips.{strip_cells, strip_share, Inside, Gained};
+ghost use Rattle.sweeps.specs.Strips.{strip_cells, cell_overlap, strip_share, Inside, total, Gained};
 
 use crate::strip::Strip;
 use values::value::Value;
@@ -12,7 +10,7 @@ impl Strip<'_> {
     // How far a cell overlaps the stretch.
     fn share(self, cell: usize) -> u64
         requires { cell < strip_cells self }
-        ensures { result ≡ share self.entry.line.edges.at.now self.entry.over.low self.entry.over.high cell }
+        ensures { result ≡ cell_overlap self.entry cell }
     {
         self.line.edges.stretch(cell).overlap(self.over)
     }
@@ -20,7 +18,7 @@ impl Strip<'_> {
     // The sum over the strip of the multiples of its values by their overlaps.
     fn gather<V: Value>(self, from: &[V]) -> V
         requires { Inside self (length from.now) }
-        ensures { result ≡ sum V.Value.ops (length from.now) (λ q. V.Value.ops.multiple (at V.Value.ops from.now q) (strip_share self.entry q)) }
+        ensures { result ≡ total V.Value.ops from.now (strip_share self.entry) }
     {
         let mut sum = V::ZERO;
         // The number of a cell gives its place and its share: a chain would count it too, and be no plainer.

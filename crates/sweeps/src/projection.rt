@@ -25,7 +25,7 @@ pub fn forward<V: Value>(
 {
     let call = checked(plan, view, volume.len(), working.len())?;
     let pass = Pass {
-        view: &call.landed,
+        view: &call.view,
         way: Way::Forward,
         factor,
         from: volume,

@@ -40,8 +40,6 @@ fn sweep_block<V: Value, L: Landed>(pass: &Pass<'_, V, L>, first: usize, count: 
     let block = Block {
         pass,
         first,
-        stride: view.columns(),
-        width,
         columns: filled(&mut columns[0..count + 1], |i| view.column_edge(first + i)),
         rows: filled(&mut rows[0..count * width], |i| {
             view.row_edge(first + i / width, i % width)

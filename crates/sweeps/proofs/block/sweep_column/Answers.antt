@@ -1,13 +1,8 @@
-use Rattle.sweeps.specs.Passes.{column_weight}
 use Rattle.sweeps.proofs.Beams.{column_none}
 use Rattle.sweeps.proofs.Levels.{swept_none}
 use Rattle.sweeps.proofs.block.sweep_column.Goals as goal
 
 pub returns-else-voxels : goal.returns-else-voxels
 returns-else-voxels g c =
-    let a = c.args in
-    let L = g.L.Landed.landing a.pass.now.view.now in
     let e = c.over-voxels.ensures in
-    swept_none g.met.V.Value.lawful a.pass.now a.to.now (column_weight L a.slab.number a.column.number)
-    (column_none L a.slab a.column c.requires.slab c.requires.column c.over-voxels.result
-    (record { line = e.line; over = e.over }) c.if-voxels.false)
+    swept_none g.met.V.Value.lawful (column_none c.requires.slab c.requires.column c.over-voxels.result (record { line = e.line; over = e.over }) c.if-voxels.false)

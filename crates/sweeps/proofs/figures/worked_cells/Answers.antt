@@ -1,4 +1,4 @@
-use Rattle.std.proofs.Common.{refl}
+use Rattle.std.proofs.Common.{refl, rules}
 use Rattle.values.specs.Sums.{sum}
 use Rattle.geometry.specs.Turn.{sine, slab_axis, main_of, side_of}
 use Rattle.geometry.specs.Landed.{depth, slant, cross_edge, height_edge, column_edge, row_edge}
@@ -10,23 +10,4 @@ use Rattle.sweeps.proofs.figures.worked_cells.Goals as goal
 pub returns : goal.returns
 unfolding sum sine slab_axis main_of side_of depth slant cross_edge height_edge column_edge row_edge cross_overlap height_overlap weight landing forward back
 returns c =
-    record {
-      cells = refl;
-      figures = record {
-        near_U = refl;
-        near_W = refl;
-        far_U = refl;
-        far_W = refl;
-        back_voxels = refl;
-        back_inner = refl;
-        forward_inner = refl;
-        tie_left = refl;
-        tie_right = refl;
-        turned_S = refl;
-        turned_weight = refl;
-        too_near = refl;
-        near_enough = refl;
-        beyond = refl;
-        not_beyond = refl;
-      };
-    }
+    record { cells = refl; figures = search rules }

@@ -1,6 +1,5 @@
-use Rattle.std.proofs.Common.{◌≡◌, ◌+◌, ◌<◌, length, ap, arith, rules}
+use Rattle.std.proofs.Common.{◌≡◌, ◌+◌, ◌<◌, length, arith, rules}
 use Rattle.sweeps.specs.Tables.{Tabled}
-use Rattle.sweeps.proofs.Blocks.{slab_is}
 use Rattle.sweeps.proofs.block.Block.sweep_slab.Goals as goal
 
 pub sweep_columns-requires-clause-slab : goal.sweep_columns-requires-clause-slab
@@ -14,4 +13,11 @@ sweep_columns-requires-clause-slab g c =
     let heights = c.filled-heights.result.at.now in
     let up : length heights ≡ L.heights + 1 = search rules in
     let W : Tabled heights (L.heights + 1) (L.W number) = (up, λ i h. let below : i < length heights = omega arith in search (rules, c.filled-heights.ensures.edges i below)) in
-    slab_is L number c.slab_of.result c.requires.number e.number e.start e.stride e.rise _ _ (ap (λ es. es.at.now) e.crosses) (ap (λ es. es.at.now) e.heights) U W
+    record {
+      below = rw e.number c.requires.number;
+      start = rw e.number e.start;
+      stride = e.stride;
+      rise = e.rise;
+      crosses = rw (e.crosses, e.number) U;
+      heights = rw (e.heights, e.number) W;
+    }

@@ -1,28 +1,24 @@
 use Rattle.std.proofs.Common.{◌≡◌, arith}
 use Rattle.sweeps.specs.Passes.{beam_weight, column_weight}
-use Rattle.sweeps.proofs.Levels.{summed_none, summed_more, summed_all}
+use Rattle.sweeps.proofs.Levels.{summed_none, summed_more}
 use Rattle.sweeps.proofs.crossing.Crossing.sweep.Goals as goal
 
 pub loop-height-init : goal.loop-height-init
 loop-height-init g c =
     let x = c.args.self.now in
-    let L = g.L.Landed.landing x.pass.now.view.now in
-    summed_none g.met.V.Value.lawful x.pass.now c.args.to.now (beam_weight L x.slab.number x.column.number)
+    summed_none g.met.V.Value.lawful (beam_weight (g.L.Landed.landing x.pass.now.view.now) x.slab.number x.column.number)
 
 pub loop-height-preserved : goal.loop-height-preserved
 loop-height-preserved g c =
     let x = c.args.self.now in
-    let L = g.L.Landed.landing x.pass.now.view.now in
-    summed_more g.met.V.Value.lawful x.pass.now c.args.to.now (beam_weight L x.slab.number x.column.number)
-    c.loop-height.height c.loop-height.to c.sweep_height-near.new.to c.loop-height.auto.to c.loop-height.invariant c.sweep_height-near.ensures
+    let M = beam_weight (g.L.Landed.landing x.pass.now.view.now) x.slab.number x.column.number in
+    summed_more g.met.V.Value.lawful M _ c.loop-height.auto.to c.loop-height.invariant c.sweep_height-near.ensures
 
 pub returns : goal.returns
 unfolding column_weight
 returns g c =
     let x = c.args.self.now in
-    let L = g.L.Landed.landing x.pass.now.view.now in
-    let M = beam_weight L x.slab.number x.column.number in
     let len = x.slab_of.heights.0 in
     let cells = c.cells-height-end.ensures in
-    let end : c.loop-height.height ≡ L.heights = omega arith in
-    summed_all g.met.V.Value.lawful x.pass.now c.args.to.now M c.loop-height.height L.heights c.loop-height.to end c.loop-height.invariant
+    let end : c.loop-height.height ≡ (g.L.Landed.landing x.pass.now.view.now).heights = omega arith in
+    rw end at c.loop-height.invariant

@@ -1,28 +1,19 @@
-use Rattle.std.proofs.Common.{◌*◌, length}
-use Rattle.sweeps.specs.Strips.{strip_share}
-use Rattle.sweeps.specs.Passes.{beam_weight}
-use Rattle.sweeps.proofs.Beams.{voxels_inside, cells_inside, cells_none, beam_is, placed}
+use Rattle.std.proofs.Common.{length}
+use Rattle.sweeps.proofs.Beams.{cells_none, beam_is, beam_placed}
 use Rattle.sweeps.proofs.Levels.{swept_as, swept_none}
 use Rattle.sweeps.proofs.crossing.Crossing.sweep_height.Goals as goal
 
 pub exchange-requires : goal.exchange-requires
 exchange-requires g c =
     let x = c.args.self.now in
-    let L = g.L.Landed.landing x.pass.now.view.now in
-    placed x.pass.now.way L (length x.pass.now.from.now) (length c.args.to.now) c.voxels_at.result c.cells_at-cells.result c.requires.sized
-    (voxels_inside L x.slab x.column x.slab_of x.column_of c.args.height c.requires.height c.voxels_at.result c.voxels_at.ensures)
-    (cells_inside L x.slab x.column x.slab_of x.column_of c.args.height c.requires.height c.cells_at-cells.result c.cells_at-cells.ensures)
+    beam_placed x.slab_of x.column_of c.requires.height c.voxels_at.ensures c.cells_at-cells.ensures x.pass.now.way (length x.pass.now.from.now) (length c.args.to.now) c.requires.sized
 
 pub returns-then-cells : goal.returns-then-cells
 returns-then-cells g c =
     let x = c.args.self.now in
-    let L = g.L.Landed.landing x.pass.now.view.now in
-    swept_as g.met.V.Value.lawful x.pass.now c.args.to.now (λ a b. strip_share c.voxels_at.result a * strip_share c.cells_at-cells.result b) _ c.exchange.new.to
-    (beam_is L x.slab x.column x.slab_of x.column_of c.args.height c.requires.height c.voxels_at.result c.cells_at-cells.result c.voxels_at.ensures c.cells_at-cells.ensures) c.exchange.ensures
+    swept_as g.met.V.Value.lawful (beam_is x.slab_of x.column_of c.requires.height c.voxels_at.ensures c.cells_at-cells.ensures) c.exchange.ensures
 
 pub returns-else-cells : goal.returns-else-cells
 returns-else-cells g c =
     let x = c.args.self.now in
-    let L = g.L.Landed.landing x.pass.now.view.now in
-    swept_none g.met.V.Value.lawful x.pass.now c.args.to.now (beam_weight L x.slab.number x.column.number c.args.height)
-    (cells_none L x.slab x.column x.slab_of x.column_of c.args.height c.requires.height c.cells_at-cells.result c.cells_at-cells.ensures c.if-cells.false)
+    swept_none g.met.V.Value.lawful (cells_none x.slab_of x.column_of c.requires.height c.cells_at-cells.ensures c.if-cells.false)

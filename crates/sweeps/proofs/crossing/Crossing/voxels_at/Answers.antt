@@ -5,8 +5,7 @@ use Rattle.sweeps.proofs.crossing.Crossing.voxels_at.Goals as goal
 pub overflow_add-self : goal.overflow_add-self
 overflow_add-self g c =
     let x = c.args.self.now in
-    let of = x.slab_of in
-    let most = line_most (g.L.Landed.landing x.pass.now.view.now) (g.met.L.Landed.sound x.pass.now.view.now) x.slab.number c.args.height x.slab.lowest.start x.slab.rise of.below c.requires of.start of.rise in
+    let most = line_most (g.met.L.Landed.sound x.pass.now.view.now) x.slab_of c.args.height c.requires in
     record { fits = omega arith }
 
 pub returns : goal.returns

@@ -1,6 +1,5 @@
-use Rattle.std.proofs.Common.{◌+◌, pos, ◌<ℤ◌, ◌≤ℤ◌, slice_index_or, rules}
+use Rattle.std.proofs.Common.{◌+◌, pos, ◌<ℤ◌, ◌≤ℤ◌, slice_index_or, rules, tests}
 use Rattle.std.proofs.lemmas.Iterator.{first_from_Range}
-use borrow.Author.Tests.{tests}
 use Rattle.sweeps.proofs.Runs.{fails_before}
 use Rattle.sweeps.proofs.edges.LandedEdges.stepped_up.Goals as goal
 
