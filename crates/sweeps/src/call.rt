@@ -45,9 +45,9 @@ pub(crate) fn checked(
 {
     let views = plan.views();
     let landed = plan.view(view).ok_or(Refusal::NoView { view, views })?;
-    let cells = plan.cells();
     check_length(Store::Volume, volume, plan.voxels())?;
-    check_length(Store::Working, working, views * cells)?;
+    check_length(Store::Working, working, plan.places())?;
+    let cells = plan.cells();
     Ok(Called {
         view: landed,
         start: view * cells,
