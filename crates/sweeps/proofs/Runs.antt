@@ -34,11 +34,16 @@ module _ (es : List ℤ) (rises : Rising es) where
       grind (arith, ints, up, passed)
 
   -- a run ends at the first cell past the stretch, or is empty where the stretch is
-  pub covers_run : (low high : ℤ) → low ≤ℤ high → (first last : ℕ) → first ≤ last → last < length es → ((i : ℕ) → i < first → edge (i + 1) ≤ℤ low) → (low <ℤ high → last + 1 < length es → high ≤ℤ edge last) → Covers es low high first last
-  covers_run low high ordered first last run ends passed beyond =
+  pub covers_run : (low high : ℤ) → low ≤ℤ high → (first last : ℕ) → first ≤ last → last < length es → ((i : ℕ) → i < first → edge (i + 1) ≤ℤ low) → (low <ℤ high → last + 1 < length es → high ≤ℤ edge last)
+      → (first + 1 < length es → low <ℤ edge (first + 1)) → ((i : ℕ) → first ≤ i → i < last → edge i <ℤ high) → Covers es low high first last
+  covers_run low high ordered first last run ends passed beyond met before =
       record {
         run = run;
         ends = omega arith;
+        meets = λ i le l.
+            let up = edge_le (first + 1) (i + 1) (omega arith) (omega arith) in
+            let above = met (omega arith) in
+            (before i le l, omega (arith, ints));
         before = λ i h. overlap_low (edge i) (edge (i + 1)) low high (rises i (omega arith)) ordered (passed i h);
         after = λ i le l.
             let high_is : high ≤ℤ edge i → share es low high i ≡ 0 = overlap_high (edge i) (edge (i + 1)) low high (rises i l) ordered in

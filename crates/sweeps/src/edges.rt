@@ -1,4 +1,4 @@
-ghost use Rattle.std.specs.Prelude.{◌≡◌, ℕ, ◌+◌, ◌-◌, ◌<◌, ◌≤◌, length, ℤ, pos, ◌≤ℤ◌, slice_index_or};
+ghost use Rattle.std.specs.Prelude.{◌≡◌, ℕ, ◌+◌, ◌-◌, ◌<◌, ◌≤◌, length, ℤ, pos, ◌≤ℤ◌, ◌<ℤ◌, slice_index_or};
 ghost use Rattle.sweeps.specs.Runs.{Rising};
 
 use crate::table::filled;
@@ -65,6 +65,7 @@ impl<'a> LandedEdges<'a> {
         requires { start < length self.at.now }
         ensures bound { (start ≤ result) × (result < length self.entry.at.now) }
         ensures passed { (i : ℕ) → start ≤ i → i < result → slice_index_or self.entry.at.now (i + 1) (pos 0) ≤ℤ low }
+        ensures met { result + 1 < length self.entry.at.now → low <ℤ slice_index_or self.entry.at.now (result + 1) (pos 0) }
     {
         let edges = self.at;
         let cells = edges.len() - 1;
@@ -79,6 +80,7 @@ impl<'a> LandedEdges<'a> {
         requires { start < length self.at.now }
         ensures bound { (start ≤ result) × (result < length self.entry.at.now) }
         ensures beyond { result + 1 < length self.entry.at.now → high ≤ℤ slice_index_or self.entry.at.now result (pos 0) }
+        ensures before { (i : ℕ) → start ≤ i → i < result → slice_index_or self.entry.at.now i (pos 0) <ℤ high }
     {
         let edges = self.at;
         let cells = edges.len() - 1;
@@ -91,6 +93,7 @@ impl<'a> LandedEdges<'a> {
     pub(crate) fn run_start(self, low: i64, near: usize) -> usize
         ensures bound { result < length self.entry.at.now }
         ensures passed { (i : ℕ) → i < result → slice_index_or self.entry.at.now (i + 1) (pos 0) ≤ℤ low }
+        ensures met { result + 1 < length self.entry.at.now → low <ℤ slice_index_or self.entry.at.now (result + 1) (pos 0) }
     {
         self.stepped_up(low, self.stepped_down(low, near))
     }

@@ -12,7 +12,8 @@ pub(crate) struct Line<'a> {
     pub(crate) edges: LandedEdges<'a>,
 }
 
-// A line of cells and a stretch of the common plane. The run first..last holds every cell that overlaps the stretch.
+// A line of cells and a stretch of the common plane. The run first..last holds every cell that overlaps the stretch, and
+// none that lies wholly to one side of it.
 #[derive(Clone, Copy)]
 pub(crate) struct Strip<'a> {
     pub(crate) line: Line<'a>,
