@@ -26,10 +26,10 @@ side t = arg t.b (omega (arith, t.steep.most, t.steep.side)) (lit< tt)
 -- of operands A and B that are the parts a and b of a direction
 module _ {A B a b : ℤ} (main : Reads A a 16384) (side : Reads B b 16384) where
   -- 2 e a + Q b
-  pub along_made : {Z e : ℤ} → Reads Z e 4194304 → Makes (again (pos 2 *ℤ Z) *ℤ A) (pos 2 *ℤ e *ℤ a) (2 ^ 37)
+  along_made : {Z e : ℤ} → Reads Z e 4194304 → Makes (again (pos 2 *ℤ Z) *ℤ A) (pos 2 *ℤ e *ℤ a) (2 ^ 37)
   along_made e = times (read (times (lit 2) e (lit< tt))) main (lit< tt)
 
-  pub across_made : {Y Q : ℤ} → Reads Y Q 8388608 → Makes (Y *ℤ B) (Q *ℤ b) (2 ^ 37)
+  across_made : {Y Q : ℤ} → Reads Y Q 8388608 → Makes (Y *ℤ B) (Q *ℤ b) (2 ^ 37)
   across_made q = times q side (lit< tt)
 
   pub sum_made : {Y Z Q e : ℤ} → Reads Y Q 8388608 → Reads Z e 4194304 → Makes (again (again (pos 2 *ℤ Z) *ℤ A) +ℤ again (Y *ℤ B)) (pos 2 *ℤ e *ℤ a +ℤ Q *ℤ b) (2 ^ 38)

@@ -8,16 +8,16 @@ use Rattle.geometry.specs.Floor.{floor_by, floor_div, Floor}
 use Rattle.geometry.proofs.Products.{*ℤ-assoc, *ℤ-negℤ, negℤ-*ℤ, times_mono, times_less}
 
 -- r * m ≤ n < r * m + m
-pub floor_by_low : (n : ℤ) (m : ℕ) → (floor_by n (suc m) *ℤ pos (suc m)) ≤ℤ n
+floor_by_low : (n : ℤ) (m : ℕ) → (floor_by n (suc m) *ℤ pos (suc m)) ≤ℤ n
 floor_by_low (pos a) m = omega (arith, ints)
 floor_by_low (negsuc a) m = omega (arith, ints)
 
-pub floor_by_high : (n : ℤ) (m : ℕ) → n <ℤ (floor_by n (suc m) *ℤ pos (suc m) +ℤ pos (suc m))
+floor_by_high : (n : ℤ) (m : ℕ) → n <ℤ (floor_by n (suc m) *ℤ pos (suc m) +ℤ pos (suc m))
 floor_by_high (pos a) m = omega (arith, ints)
 floor_by_high (negsuc a) m = omega (arith, ints)
 
 -- what is at most n / m is at most the floor
-pub below_floor_by : (k n : ℤ) (m : ℕ) → (k *ℤ pos (suc m)) ≤ℤ n → k ≤ℤ floor_by n (suc m)
+below_floor_by : (k n : ℤ) (m : ℕ) → (k *ℤ pos (suc m)) ≤ℤ n → k ≤ℤ floor_by n (suc m)
 below_floor_by k n m h =
     let r = floor_by n (suc m) in
     by_lt_z r k
@@ -35,7 +35,7 @@ floor_is n (negsuc m) p =
     }
 
 -- the floor of a greater number over a positive divisor is no less
-pub floor_by_mono : (a b : ℤ) (m : ℕ) → a ≤ℤ b → floor_by a (suc m) ≤ℤ floor_by b (suc m)
+floor_by_mono : (a b : ℤ) (m : ℕ) → a ≤ℤ b → floor_by a (suc m) ≤ℤ floor_by b (suc m)
 floor_by_mono a b m h = below_floor_by (floor_by a (suc m)) b m (omega (arith, ints, floor_by_low a m))
 
 pub floor_rises : (a b d : ℤ) → pos 0 <ℤ d → a ≤ℤ b → floor_div a d ≤ℤ floor_div b d
@@ -48,7 +48,7 @@ floor_falls a b (pos m) p h = absurd (omega (arith, ints))
 floor_falls a b (negsuc m) p h = floor_by_mono (neg_ℤ b) (neg_ℤ a) m (omega (arith, ints))
 
 -- the quotients n / d ≤ n' / d', over positive divisors, told by products
-pub floor_by_cross : (n n' : ℤ) (m m' : ℕ) → (n *ℤ pos (suc m')) ≤ℤ (n' *ℤ pos (suc m)) → floor_by n (suc m) ≤ℤ floor_by n' (suc m')
+floor_by_cross : (n n' : ℤ) (m m' : ℕ) → (n *ℤ pos (suc m')) ≤ℤ (n' *ℤ pos (suc m)) → floor_by n (suc m) ≤ℤ floor_by n' (suc m')
 floor_by_cross n n' m m' h =
     let r = floor_by n (suc m) in
     let d = pos (suc m) in

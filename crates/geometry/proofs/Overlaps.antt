@@ -6,7 +6,7 @@ use Rattle.std.specs.Int.{int_min, int_max}
 use Rattle.std.proofs.lemmas.Int.{clamps}
 use Rattle.geometry.specs.Overlap.{or_zero, overlap, overlaps, Conserved, EitherWay}
 
-pub or_zero_is : (z : ℤ) → or_zero z ≡ up z - down z
+or_zero_is : (z : ℤ) → or_zero z ≡ up z - down z
 or_zero_is (pos n) = omega arith
 or_zero_is (negsuc n) = omega arith
 

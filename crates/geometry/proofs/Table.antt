@@ -18,7 +18,7 @@ from_all p n e = (Decides-below_and p (λ k. p k ≡ true) (all_below p) (λ k. 
 abbrev round_at : ℕ → Bool
 round_at q = nat_le (nat_abs (cos_of q *ℤ cos_of q +ℤ sin_of q *ℤ sin_of q -ℤ pos (2 ^ 28))) 17126
 
-pub all_round : (q : ℕ) → q < 64 → Round (sin_of q) (cos_of q)
+all_round : (q : ℕ) → q < 64 → Round (sin_of q) (cos_of q)
 unfolding sine
 all_round q h = leb-true _ 17126 (from_all round_at 64 refl q h)
 

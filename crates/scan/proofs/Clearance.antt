@@ -1,4 +1,4 @@
--- What a draft's checks find follows where they find nothing.
+-- What holds of the distances and edges of a draft whose checks find nothing.
 use Rattle.std.specs.Prelude.{◌≡◌, ℕ, Bool, List, length, ℤ, None, nat_le, unsigned_abs}
 use Rattle.std.proofs.Common.{sym, arith}
 use Rattle.scan.specs.Axes.{edge_of}

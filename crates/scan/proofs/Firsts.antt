@@ -4,7 +4,7 @@ use Rattle.std.specs.List.{find, range_with_len}
 use Rattle.std.proofs.Common.{arith}
 use Rattle.scan.specs.Verdicts.{first_where}
 
--- there is none where the test fails of every number
+-- where none is found, the test fails at every number
 found_none : (test : ℕ → Bool) (a n : ℕ) → find test (range_with_len a n) ≡ None → (k : ℕ) → a ≤ k → k < a + n → test k ≡ false
 found_none test a zero e k at l = absurd (omega arith)
 found_none test a (suc n) e k at l = grind (arith, found_none test (a + 1) n)

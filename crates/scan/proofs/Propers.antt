@@ -34,7 +34,7 @@ module _ (n : ℕ) (edge : ℕ → ℤ) (es : List ℤ) (long : length es ≡ n)
 pub even_length : (first pitch : ℤ) (n : ℕ) → length (even_edges first pitch n) ≡ n + 1
 even_length first pitch n = length-map-range_with_len (even_edge first pitch) 0 (n + 1)
 
-pub even_edge_at : (first pitch : ℤ) (n i : ℕ) → i < n + 1 → slice_index_or (even_edges first pitch n) i (pos 0) ≡ even_edge first pitch i
+even_edge_at : (first pitch : ℤ) (n i : ℕ) → i < n + 1 → slice_index_or (even_edges first pitch n) i (pos 0) ≡ even_edge first pitch i
 even_edge_at first pitch n i l = get_or-map-range_with_len (even_edge first pitch) 0 (n + 1) i i (pos 0) l (omega arith)
 
 count_within : (found least most : ℕ) → count_check found least most ≡ None → (least ≤ found) × (found ≤ most)

@@ -4,8 +4,8 @@ ghost use Rattle.scan.specs.Limits.{SourceClear, ColumnsNearer};
 use crate::axis::Axis;
 use geometry::distances::Distances;
 
-// Distances, and the axes that they go with: the source stands clear of x and y, and the columns' edges lie nearer to the
-// middle of the panel than the source does.
+// Distances, and the axes that they go with: D is above twice every |edge| of x and y, and every column edge lies less
+// than F from 0.
 #[derive(Drop)]
 pub(crate) struct Accepted<'a, X: Axis, Y: Axis, C: Axis> {
     pub(crate) distances: Distances,

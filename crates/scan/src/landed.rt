@@ -4,14 +4,16 @@ ghost use Rattle.scan.specs.Landing.{Landing, Sound};
 use geometry::direction::SlabAxis;
 
 /// One view of a scan, by where its edges land on the common plane. A number past the last is answered as the last.
-/// Five numbers of cells are five methods: callers read better by name than by a key, and slabs and crosses are no axes of
+/// Five numbers of cells are five methods: calls read better by name than by a key, and slabs and crosses are no axes of
 /// a scan.
 pub trait Landed {
     ghost landing: { Self → Landing };
 
+    /// The axis whose cells are the slabs.
     fn along(&self) -> SlabAxis
         ensures { result ≡ (landing self.now).along };
 
+    /// The number of slabs.
     fn slabs(&self) -> usize
         ensures { result ≡ (landing self.now).slabs };
 
@@ -19,12 +21,15 @@ pub trait Landed {
     fn crosses(&self) -> usize
         ensures { result ≡ (landing self.now).crosses };
 
+    /// The number of cells of the z axis.
     fn heights(&self) -> usize
         ensures { result ≡ (landing self.now).heights };
 
+    /// The number of panel columns.
     fn columns(&self) -> usize
         ensures { result ≡ (landing self.now).columns };
 
+    /// The number of panel rows.
     fn rows(&self) -> usize
         ensures { result ≡ (landing self.now).rows };
 

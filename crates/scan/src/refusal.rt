@@ -48,7 +48,7 @@ pub enum Refusal {
         source: i64,
         widest: i64,
     },
-    /// An edge of the columns lies as far out as the panel stands from the source.
+    /// An edge of the columns lies as far from 0 as the panel stands from the source, or farther.
     ColumnBeyond {
         edge: usize,
         at: i64,

@@ -1,4 +1,4 @@
--- The run of a strip holds every cell that overlaps its stretch.
+-- The run of a strip holds every cell that overlaps its stretch, and none that lies wholly to one side of it.
 use Rattle.std.proofs.Common.{◌≡◌, ℕ, zero, suc, ◌+◌, ◌-◌, ◌<◌, ◌≤◌, Option, Some, None, List, length, slice_index_or, ℤ, pos, ◌≤ℤ◌, ◌<ℤ◌, arith}
 use Rattle.std.specs.Option.{MatchOption, unwrap_or}
 use Rattle.std.specs.Int.Signed.{≤ℤ_refl}

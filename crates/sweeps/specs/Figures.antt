@@ -1,11 +1,13 @@
 -- The worked plan: small enough to follow by hand, with the figures that the definitions yield for it.
 use Rattle.std.specs.Prelude.{◌≡◌, ℕ, List, [], ◌∷◌, map, ℤ, pos, neg_ℤ, Some, None}
+use Rattle.std.specs.Option.{option_map}
 use Rattle.values.specs.Counts.{counted, count_ops, shown}
 use Rattle.values.specs.declared.count.Count.{Count}
 use Rattle.scan.specs.Landing.{Landing}
 use Rattle.scan.specs.Scans.{Scan}
 use Rattle.scan.specs.Views.{landing}
 use Rattle.scan.specs.DraftChecks.{draft_check}
+use Rattle.scan.specs.Refusals.{number}
 use Rattle.scan.specs.declared.refusal.Refusal.TheVariants.{SourceTooNear, ColumnBeyond}
 use Rattle.sweeps.specs.Stores.{inner}
 use Rattle.sweeps.specs.Systems.{System, forward, back}
@@ -83,7 +85,9 @@ pub record Figures : Type 0 where
   pub turned_weight : (at_step 32).weight 0 0 1 ≡ 10000
   -- a source at 200 is refused by 7, and at 201 it is not
   pub too_near : draft_check (pos 200) (pos 2000) sides sides (columns_to (pos 200)) ≡ Some (SourceTooNear (pos 200) (pos 100))
+  pub too_near_number : option_map number (draft_check (pos 200) (pos 2000) sides sides (columns_to (pos 200))) ≡ Some 7
   pub near_enough : draft_check (pos 201) (pos 2000) sides sides (columns_to (pos 200)) ≡ None
   -- a last column edge at 2,000 is refused by 8, and at 1,999 it is not
   pub beyond : draft_check (pos 1000) (pos 2000) sides sides (columns_to (pos 2000)) ≡ Some (ColumnBeyond 2 (pos 2000) (pos 2000))
+  pub beyond_number : option_map number (draft_check (pos 1000) (pos 2000) sides sides (columns_to (pos 2000))) ≡ Some 8
   pub not_beyond : draft_check (pos 1000) (pos 2000) sides sides (columns_to (pos 1999)) ≡ None

@@ -11,7 +11,7 @@ pub record System : Type 0 where
   pub voxels : ℕ
   pub weight : ℕ → ℕ → ℕ → ℕ
 
--- The number of places of the working store: the cells of view v are the places from v cells on.
+-- The number of places of the working store: the cells of view v are at the places from v · cells on.
 abbrev pub places : System → ℕ
 places s = s.views * s.cells
 

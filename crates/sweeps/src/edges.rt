@@ -75,7 +75,7 @@ impl<'a> LandedEdges<'a> {
     }
 
     // From `start` up, the first cell whose lower edge is not below `high`, or the number of cells. It and `stepped_up` are
-    // no one search over a test: each is one chain, and promises another thing.
+    // not one search that is given a test: each is one chain, and promises another thing.
     pub(crate) fn run_end(self, high: i64, start: usize) -> usize
         requires { start < length self.at.now }
         ensures bound { (start ≤ result) × (result < length self.entry.at.now) }

@@ -10,8 +10,8 @@ pub(crate) enum Way {
 }
 
 // One sweep of a view: what it reads, and the factor. What it writes to is passed beside it, with the clause `Sized`: a
-// pass that lent the target too would have to promise in every function that takes it that all else in it stays, and
-// that the source has its length, as a fact of the pass, would leave a clause for the target in each all the same.
+// pass that lent the target too would have to promise in every function that takes it that all else in it stays. Keeping
+// the source's length as a fact of the pass would still leave a clause for the target in each.
 #[derive(Drop)]
 pub(crate) struct Pass<'a, V, L> {
     pub(crate) view: &'a L,

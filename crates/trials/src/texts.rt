@@ -1,4 +1,4 @@
-// What is printed of counts, refusals, failures and steps that there are not, and how counts convert.
+// What is printed of counts, refusals, failures and numbers that no step has, and how counts convert.
 use geometry::no_step::NoStep;
 use scan::failure::Failure;
 use scan::refusal::{Refusal, Store};

@@ -4,7 +4,7 @@ use Rattle.values.specs.Laws.{Ops, Laws}
 use Rattle.values.specs.Sums.{sum}
 
 module _ {V : Type 0} {o : Ops V} (laws : Laws o) where
-  pub zero_plus : (x : V) → o.plus o.zero x ≡ x
+  zero_plus : (x : V) → o.plus o.zero x ≡ x
   zero_plus x = laws.plus_comm o.zero x ∙ laws.plus_zero x
 
   -- taken no times
@@ -15,7 +15,7 @@ module _ {V : Type 0} {o : Ops V} (laws : Laws o) where
   plus_none x y e = ap (o.plus x) e ∙ laws.plus_zero x
 
   -- (a + b) + (c + d) is (a + c) + (b + d)
-  pub plus_swap : (a b c d : V) → o.plus (o.plus a b) (o.plus c d) ≡ o.plus (o.plus a c) (o.plus b d)
+  plus_swap : (a b c d : V) → o.plus (o.plus a b) (o.plus c d) ≡ o.plus (o.plus a c) (o.plus b d)
   plus_swap a b c d =
       laws.plus_assoc a b (o.plus c d)
       ∙ ap (o.plus a) (sym (laws.plus_assoc b c d) ∙ ap (λ x. o.plus x d) (laws.plus_comm b c) ∙ laws.plus_assoc c b d)
@@ -24,11 +24,11 @@ module _ {V : Type 0} {o : Ops V} (laws : Laws o) where
   multiple_suc : (x : V) (n : ℕ) → o.multiple x (suc n) ≡ o.plus (o.multiple x n) x
   multiple_suc x n = ap (o.multiple x) (sym (add-one n)) ∙ laws.multiple_more x n
 
-  pub zero_multiple : (n : ℕ) → o.multiple o.zero n ≡ o.zero
+  zero_multiple : (n : ℕ) → o.multiple o.zero n ≡ o.zero
   zero_multiple zero = laws.multiple_zero o.zero
   zero_multiple (suc n) = multiple_suc o.zero n ∙ laws.plus_zero _ ∙ zero_multiple n
 
-  pub multiple_plus : (x y : V) (n : ℕ) → o.multiple (o.plus x y) n ≡ o.plus (o.multiple x n) (o.multiple y n)
+  multiple_plus : (x y : V) (n : ℕ) → o.multiple (o.plus x y) n ≡ o.plus (o.multiple x n) (o.multiple y n)
   multiple_plus x y zero = laws.multiple_zero (o.plus x y) ∙ sym (ap₂ o.plus (laws.multiple_zero x) (laws.multiple_zero y) ∙ laws.plus_zero o.zero)
   multiple_plus x y (suc n) =
       multiple_suc (o.plus x y) n
@@ -84,11 +84,6 @@ module _ {V : Type 0} {o : Ops V} (laws : Laws o) where
   -- nothing is added
   pub sum_none : (n : ℕ) (f : ℕ → V) → ((i : ℕ) → i < n → f i ≡ o.zero) → sum o n f ≡ o.zero
   sum_none n f h = sum_same n f (λ i. o.zero) h ∙ sum_zero n
-
-  pub times_sum : (c : V) (n : ℕ) (f : ℕ → V) → o.times c (sum o n f) ≡ sum o n (λ i. o.times c (f i))
-  unfolding sum
-  times_sum c zero f = laws.times_zero c
-  times_sum c (suc n) f = laws.times_plus c (sum o n f) (f n) ∙ ap (λ u. o.plus u (o.times c (f n))) (times_sum c n f)
 
   pub multiple_sum : (w : ℕ) (n : ℕ) (f : ℕ → V) → o.multiple (sum o n f) w ≡ sum o n (λ i. o.multiple (f i) w)
   unfolding sum

@@ -9,7 +9,7 @@ pub trait Value: Copy {
     // The constant, by a name that clauses can use.
     ghost ZERO: { Self };
 
-    // What the four operations mean.
+    // What the zero, the sum, the product and the multiple mean.
     ghost ops: { Ops Self };
 
     /// The sum.

@@ -1,4 +1,4 @@
-use Rattle.std.proofs.Common.{◌+◌, pos, ◌<ℤ◌, ◌≤ℤ◌, slice_index_or, rules}
+use Rattle.std.proofs.Common.{pos, ◌<ℤ◌, ◌≤ℤ◌, slice_index_or, rules}
 use Rattle.std.proofs.lemmas.Iterator.{first_from_Range}
 use borrow.Author.Tests.{tests}
 use Rattle.sweeps.proofs.Runs.{fails_before}
