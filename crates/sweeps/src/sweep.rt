@@ -1,6 +1,7 @@
-ghost use Rattle.std.specs.Prelude.{◌+◌, ◌≤◌, length};
+ghost use Rattle.std.specs.Prelude.{◌+◌, ◌/◌, ◌%◌, ◌^◌, ◌≤◌, length};
 ghost use Rattle.scan.specs.Landing.{weight};
 ghost use Rattle.sweeps.specs.Passes.{Sized, Swept, block_weight};
+ghost use Rattle.sweeps.specs.Tables.{Tabled};
 
 use crate::block::{Block, MOST_EDGES};
 use crate::pass::Pass;
@@ -33,17 +34,31 @@ fn sweep_block<V: Value, L: Landed>(pass: &Pass<'_, V, L>, first: usize, count: 
     ensures { Swept V.Value.ops pass.now (block_weight (L.Landed.landing pass.now.view.now) first count) to.old to.new }
 {
     let view = pass.view;
-    let width = view.rows() + 1;
     // Arrays on the stack, since a sweep allocates nothing; row edges flat, so that one call fills those of all columns.
     let mut columns = [0i64; BLOCK + 1];
     let mut rows = [0i64; MOST_ROW_EDGES];
     let block = Block {
         pass,
         first,
-        columns: filled(&mut columns[0..count + 1], |i| view.column_edge(first + i)),
-        rows: filled(&mut rows[0..count * width], |i| {
-            view.row_edge(first + i / width, i % width)
-        }),
+        columns: column_edges(view, first, &mut columns[0..count + 1]),
+        rows: row_edges(view, first, &mut rows[0..count * (view.rows() + 1)]),
     };
     block.sweep(to);
+}
+
+// A table of the edges S of the columns from `first` on.
+fn column_edges<'a, L: Landed>(view: &L, first: usize, table: &'a mut [i64]) -> &'a [i64]
+    requires { first + length table.old ≤ 2 ^ 64 }
+    ensures { Tabled result.now (length table.old) (λ i. (L.Landed.landing view.now).S (first + i)) }
+{
+    filled(table, |i| view.column_edge(first + i))
+}
+
+// A table of the edges T in the columns from `first` on, column after column.
+fn row_edges<'a, L: Landed>(view: &L, first: usize, table: &'a mut [i64]) -> &'a [i64]
+    requires { first + length table.old ≤ 2 ^ 64 }
+    ensures { Tabled result.now (length table.old) (λ i. (L.Landed.landing view.now).T (first + i / ((L.Landed.landing view.now).rows + 1)) (i % ((L.Landed.landing view.now).rows + 1))) }
+{
+    let width = view.rows() + 1;
+    filled(table, |i| view.row_edge(first + i / width, i % width))
 }
