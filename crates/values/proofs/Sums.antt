@@ -15,11 +15,21 @@ module _ {V : Type 0} {o : Ops V} (laws : Laws o) where
   plus_none x y e = ap (o.plus x) e ∙ laws.plus_zero x
 
   -- (a + b) + (c + d) is (a + c) + (b + d)
-  plus_swap : (a b c d : V) → o.plus (o.plus a b) (o.plus c d) ≡ o.plus (o.plus a c) (o.plus b d)
+  pub plus_swap : (a b c d : V) → o.plus (o.plus a b) (o.plus c d) ≡ o.plus (o.plus a c) (o.plus b d)
   plus_swap a b c d =
       laws.plus_assoc a b (o.plus c d)
       ∙ ap (o.plus a) (sym (laws.plus_assoc b c d) ∙ ap (λ x. o.plus x d) (laws.plus_comm b c) ∙ laws.plus_assoc c b d)
       ∙ sym (laws.plus_assoc a c (o.plus b d))
+
+  pub zero_times : (x : V) → o.times o.zero x ≡ o.zero
+  zero_times x = laws.times_comm o.zero x ∙ laws.times_zero x
+
+  pub plus_times : (x y z : V) → o.times (o.plus x y) z ≡ o.plus (o.times x z) (o.times y z)
+  plus_times x y z = laws.times_comm (o.plus x y) z ∙ laws.times_plus z x y ∙ ap₂ o.plus (laws.times_comm z x) (laws.times_comm z y)
+
+  -- x (y z) is y (x z)
+  pub times_swap : (x y z : V) → o.times x (o.times y z) ≡ o.times y (o.times x z)
+  times_swap x y z = sym (laws.times_assoc x y z) ∙ ap (λ u. o.times u z) (laws.times_comm x y) ∙ laws.times_assoc y x z
 
   multiple_suc : (x : V) (n : ℕ) → o.multiple x (suc n) ≡ o.plus (o.multiple x n) x
   multiple_suc x n = ap (o.multiple x) (sym (add-one n)) ∙ laws.multiple_more x n
@@ -28,7 +38,7 @@ module _ {V : Type 0} {o : Ops V} (laws : Laws o) where
   zero_multiple zero = laws.multiple_zero o.zero
   zero_multiple (suc n) = multiple_suc o.zero n ∙ laws.plus_zero _ ∙ zero_multiple n
 
-  multiple_plus : (x y : V) (n : ℕ) → o.multiple (o.plus x y) n ≡ o.plus (o.multiple x n) (o.multiple y n)
+  pub multiple_plus : (x y : V) (n : ℕ) → o.multiple (o.plus x y) n ≡ o.plus (o.multiple x n) (o.multiple y n)
   multiple_plus x y zero = laws.multiple_zero (o.plus x y) ∙ sym (ap₂ o.plus (laws.multiple_zero x) (laws.multiple_zero y) ∙ laws.plus_zero o.zero)
   multiple_plus x y (suc n) =
       multiple_suc (o.plus x y) n
@@ -62,6 +72,9 @@ module _ {V : Type 0} {o : Ops V} (laws : Laws o) where
       ∙ ap (λ u. o.plus u (o.times x y)) (times_multiple x y n)
       ∙ sym (multiple_suc (o.times x y) n)
 
+  pub multiple_times : (x y : V) (n : ℕ) → o.times (o.multiple x n) y ≡ o.multiple (o.times x y) n
+  multiple_times x y n = laws.times_comm (o.multiple x n) y ∙ times_multiple y x n ∙ ap (λ u. o.multiple u n) (laws.times_comm y x)
+
   pub sum_more : (n : ℕ) (f : ℕ → V) → sum o (n + 1) f ≡ o.plus (sum o n f) (f n)
   unfolding sum
   sum_more n f = ap (λ m. sum o m f) (add-one n)
@@ -90,6 +103,14 @@ module _ {V : Type 0} {o : Ops V} (laws : Laws o) where
   multiple_sum w zero f = zero_multiple w
   multiple_sum w (suc n) f = multiple_plus (sum o n f) (f n) w ∙ ap (λ u. o.plus u (o.multiple (f n) w)) (multiple_sum w n f)
 
+  pub times_sum : (c : V) (n : ℕ) (f : ℕ → V) → o.times c (sum o n f) ≡ sum o n (λ i. o.times c (f i))
+  unfolding sum
+  times_sum c zero f = laws.times_zero c
+  times_sum c (suc n) f = laws.times_plus c (sum o n f) (f n) ∙ ap (λ u. o.plus u (o.times c (f n))) (times_sum c n f)
+
+  pub sum_times : (c : V) (n : ℕ) (f : ℕ → V) → o.times (sum o n f) c ≡ sum o n (λ i. o.times (f i) c)
+  sum_times c n f = laws.times_comm (sum o n f) c ∙ times_sum c n f ∙ sum_same n _ _ (λ i l. laws.times_comm c (f i))
+
   pub sum_swap : (m n : ℕ) (f : ℕ → ℕ → V) → sum o m (λ i. sum o n (λ j. f i j)) ≡ sum o n (λ j. sum o m (λ i. f i j))
   unfolding sum
   sum_swap zero n f = sym (sum_zero n)
@@ -108,6 +129,14 @@ module _ {V : Type 0} {o : Ops V} (laws : Laws o) where
       ∙ sum_split n (m - n) f
       ∙ ap (o.plus (sum o n f)) (sum_none (m - n) (λ i. f (n + i)) (λ i l. h (n + i) (omega arith) (omega arith)))
       ∙ laws.plus_zero (sum o n f)
+
+  -- nothing is added but b terms, from the term a on
+  pub sum_part : (a b n : ℕ) (f : ℕ → V) → a + b ≤ n → ((i : ℕ) → i < a → f i ≡ o.zero) → ((i : ℕ) → a + b ≤ i → f i ≡ o.zero) → sum o n f ≡ sum o b (λ i. f (a + i))
+  sum_part a b n f le before after =
+      sum_past n (a + b) f le (λ i from l. after i from)
+      ∙ sum_split a b f
+      ∙ ap (λ u. o.plus u (sum o b (λ i. f (a + i)))) (sum_none a f before)
+      ∙ zero_plus _
 
   -- one term alone
   pub sum_only : (n k : ℕ) (f : ℕ → V) → k < n → ((i : ℕ) → i < n → i ≢ k → f i ≡ o.zero) → sum o n f ≡ f k

@@ -1,5 +1,6 @@
 pub mod Laws
 pub mod Sums
+pub mod Naturals
 pub mod Counts
 pub mod Pairs
 pub mod Reaches

@@ -1,0 +1,3 @@
+pub mod Built
+pub mod Transposes
+pub mod Linearity
