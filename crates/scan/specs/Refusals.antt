@@ -4,7 +4,7 @@ use Rattle.std.specs.Fmt.{decimal}
 use Rattle.scan.specs.declared.failure.Failure.{Failure}
 use Rattle.scan.specs.declared.failure.Failure.TheVariants.{Refused, Memory}
 use Rattle.scan.specs.declared.refusal.Refusal.{Refusal}
-use Rattle.scan.specs.declared.refusal.Refusal.TheVariants.{Count, NotRising, OutOfRange, SourceDistance, PanelDistance, SourceTooNear, ColumnBeyond, StepOutOfRange, DraftFull, NoView, StoreLength}
+use Rattle.scan.specs.declared.refusal.Refusal.TheVariants.{Count, NotRising, OutOfRange, SourceDistance, PanelDistance, SourceTooNear, ColumnBeyond, StepOutOfRange, DraftFull, NoView, StoreLength, BoxBounds}
 
 -- The number that stands for the condition.
 abbrev pub number : Refusal → ℕ
@@ -19,6 +19,7 @@ number (StepOutOfRange step) = 9
 number (DraftFull views) = 21
 number (NoView view views) = 22
 number (StoreLength store found wanted) = 23
+number (BoxBounds axis lower upper cells) = 24
 
 -- The number of the edge that is refused, 1 for the second of two distances, and 0 for all else.
 abbrev pub place : Refusal → ℕ
@@ -33,6 +34,7 @@ place (StepOutOfRange step) = 0
 place (DraftFull views) = 0
 place (NoView view views) = 0
 place (StoreLength store found wanted) = 0
+place (BoxBounds axis lower upper cells) = 0
 
 -- What is printed of a refusal.
 abbrev pub refusal_text : Refusal → List ℕ

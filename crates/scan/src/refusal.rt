@@ -3,6 +3,7 @@ ghost use Rattle.std.specs.Prelude.{◌≡◌, Some};
 ghost use Rattle.scan.specs.Refusals.{number, place, refusal_text};
 ghost use Rattle.scan.specs.declared.refusal.Refusal.TheVariants.{StepOutOfRange};
 
+use crate::scan_axis::ScanAxis;
 use geometry::no_step::NoStep;
 use std::error::Error;
 use std::fmt;
@@ -11,6 +12,7 @@ use std::fmt;
 #[derive(Clone, Copy, PartialEq, Eq, Debug)]
 pub enum Store {
     Volume,
+    Measured,
     Working,
 }
 
@@ -73,6 +75,13 @@ pub enum Refusal {
         found: usize,
         wanted: usize,
     },
+    /// Along an axis, a box has its lower bound above its upper, or its upper bound above the cells of the axis.
+    BoxBounds {
+        axis: ScanAxis,
+        lower: usize,
+        upper: usize,
+        cells: usize,
+    },
 }
 
 impl Refusal {
@@ -91,6 +100,7 @@ impl Refusal {
             Refusal::DraftFull { .. } => 21,
             Refusal::NoView { .. } => 22,
             Refusal::StoreLength { .. } => 23,
+            Refusal::BoxBounds { .. } => 24,
         }
     }
 
@@ -109,7 +119,8 @@ impl Refusal {
             | Refusal::StepOutOfRange { .. }
             | Refusal::DraftFull { .. }
             | Refusal::NoView { .. }
-            | Refusal::StoreLength { .. } => 0,
+            | Refusal::StoreLength { .. }
+            | Refusal::BoxBounds { .. } => 0,
         }
     }
 }

@@ -13,7 +13,7 @@ use Rattle.sweeps.specs.declared.pass.Way.TheVariants.{Forward, Back}
 use Rattle.sweeps.specs.declared.pass.Slab.{Slab}
 use Rattle.sweeps.specs.declared.pass.Column.{Column}
 use Rattle.sweeps.specs.declared.strip.Strip.{Strip}
-use Rattle.sweeps.proofs.Naturals.{naturals_laws}
+use Rattle.values.proofs.Naturals.{naturals_laws}
 use Rattle.sweeps.proofs.Laid.{laid_zero}
 use Rattle.geometry.proofs.Overlaps.{overlap_sorted, overlap_sym}
 

@@ -1,8 +1,9 @@
 -- The tables of a block, and those of its columns.
 use Rattle.std.proofs.Common.{◌≡◌, ℕ, ◌+◌, ◌*◌, ◌<◌, ◌≤ℤ◌, List, slice_index_or, ℤ, pos, sym, ap, ◌∙◌, ap₂, arith}
 use Rattle.std.proofs.Math.Arith.{digits_div, digits_mod}
+use Rattle.std.proofs.lemmas.Nat.{row_fits}
 use Rattle.std.specs.Int.{int_min, int_max}
-use Rattle.sweeps.proofs.Parts.{row_end, part, length_part, at_part}
+use Rattle.sweeps.proofs.Parts.{part, length_part, at_part}
 use Rattle.scan.specs.Landing.{Landing}
 use Rattle.sweeps.specs.Runs.{Rising}
 use Rattle.sweeps.specs.Tables.{Tabled}
@@ -23,7 +24,7 @@ module _ {L : Landing} {first count : ℕ} {columns rows : List ℤ} (bo : Block
 
   pub part_tabled : Tabled edges width (L.T (first + d))
   part_tabled =
-      let e = row_end d count width below in
+      let e = row_fits d width count width below (omega arith) in
       let f = bo.rows_are.0 in (
         length_part (d * width) width rows (omega arith),
         λ m h. at_part (d * width) width rows (pos 0) m h ∙ bo.rows_are.1 (d * width + m) (omega arith) ∙ ap₂ (λ k n. L.T (first + k) n) (digits_div d h) (digits_mod d h),

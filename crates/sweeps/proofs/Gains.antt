@@ -2,7 +2,7 @@
 use Rattle.std.proofs.Common.{◌≡◌, ℕ, ◌+◌, ◌*◌, ◌<◌, List, length, sym, ap, ◌∙◌, arith}
 use Rattle.values.specs.Laws.{Ops, Laws}
 use Rattle.values.proofs.Sums.{sum_same, sum_none, sum_plus, multiple_add, multiple_multiple, multiple_sum, times_multiple, multiple_none, plus_none}
-use Rattle.sweeps.specs.Stores.{at}
+use Rattle.calls.specs.Stores.{at}
 use Rattle.sweeps.specs.Strips.{total, Gained}
 
 module _ {V : Type 0} {o : Ops V} (laws : Laws o) {f : V} {from : List V} where

@@ -4,10 +4,10 @@ use Rattle.std.proofs.lemmas.List.{get_or-set_same, get_or-set_other}
 use Rattle.std.proofs.lemmas.Bool.{eq-eqb, ne_eqb, cond-true, cond-false, cases_eq}
 use Rattle.values.specs.Laws.{Ops, Laws}
 use Rattle.values.proofs.Sums.{sum_more, sum_same, sum_none, sum_plus, sum_past, sum_only, multiple_add, multiple_none, plus_none}
-use Rattle.sweeps.specs.Stores.{at}
+use Rattle.calls.specs.Stores.{at}
 use Rattle.sweeps.specs.Strips.{laid, total, place, cell_overlap, strip_cells, first_share, strip_share}
 use Rattle.sweeps.specs.declared.strip.Strip.{Strip}
-use Rattle.sweeps.proofs.Naturals.{naturals_laws}
+use Rattle.values.proofs.Naturals.{naturals_laws}
 
 module _ (start stride : ℕ) (w : ℕ → ℕ) where
   -- what place p gets of number n

@@ -3,13 +3,13 @@ use Rattle.std.proofs.Common.{◌≡◌, ℕ, ◌+◌, ◌<◌, List, length, sy
 use Rattle.values.specs.Laws.{Ops, Laws}
 use Rattle.values.specs.Sums.{sum}
 use Rattle.values.proofs.Sums.{sum_more}
-use Rattle.sweeps.specs.Strips.{naturals}
+use Rattle.values.specs.Naturals.{naturals}
 use Rattle.scan.specs.Landing.{Landing, voxels, cells}
 use Rattle.sweeps.specs.Passes.{weights, Lengths, Sized, Swept}
 use Rattle.sweeps.specs.declared.pass.Pass.{Pass}
 use Rattle.sweeps.specs.declared.pass.Way.{Way}
 use Rattle.sweeps.specs.declared.pass.Way.TheVariants.{Forward, Back}
-use Rattle.sweeps.proofs.Naturals.{naturals_laws}
+use Rattle.values.proofs.Naturals.{naturals_laws}
 use Rattle.sweeps.proofs.Gains.{gained_same, gained_none, gained_more}
 
 -- the weights of n turns

@@ -1,5 +1,4 @@
 pub mod Parts
-pub mod Naturals
 pub mod Laid
 pub mod Gains
 pub mod Runs
@@ -9,3 +8,6 @@ pub mod Blocks
 pub mod Whole
 pub mod Places
 pub mod CallFacts
+pub mod Lines
+pub mod RowFacts
+pub mod Shadows

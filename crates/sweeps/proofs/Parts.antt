@@ -1,11 +1,7 @@
 -- Parts of a list.
-use Rattle.std.proofs.Common.{◌≡◌, ℕ, ◌+◌, ◌*◌, ◌<◌, ◌≤◌, List, length, get_or, ◌∙◌, mul-le-mul_right, add-mul, one-mul, arith}
+use Rattle.std.proofs.Common.{◌≡◌, ℕ, ◌+◌, ◌<◌, ◌≤◌, List, length, get_or, ◌∙◌, arith}
 use Rattle.std.specs.List.{between}
 use Rattle.std.proofs.lemmas.List.Edits.{length-between, get_or-between}
-
--- the end of row m of a table
-pub row_end : (m rows columns : ℕ) → m < rows → m * columns + columns ≤ rows * columns
-row_end m rows columns h = let more : m + 1 ≤ rows = omega arith in omega (arith, mul-le-mul_right columns more, add-mul m 1 columns, one-mul columns)
 
 -- the n places from s on, as `&xs[s..s + n]`
 abbrev pub part : {V : Type 0} → ℕ → ℕ → List V → List V

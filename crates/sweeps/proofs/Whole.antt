@@ -7,11 +7,11 @@ use Rattle.geometry.specs.declared.direction.SlabAxis.TheVariants.{X, Y}
 use Rattle.values.specs.Sums.{sum}
 use Rattle.values.proofs.Sums.{sum_none, sum_only, sum_swap, sum_split}
 use Rattle.scan.specs.Landing.{Landing, Sound, by_slabs, nx, ny, voxels, cells, slab_of, cross_of, height_of, cross_overlap, height_overlap, weight}
-use Rattle.sweeps.specs.Strips.{naturals}
+use Rattle.values.specs.Naturals.{naturals}
 use Rattle.values.specs.Laws.{Ops, Laws}
 use Rattle.sweeps.specs.declared.pass.Pass.{Pass}
 use Rattle.sweeps.specs.Passes.{Sized, Swept, slab_start, slab_stride, rise, voxel_share, cell_share, beam_weight, column_weight, slab_weight, block_weight}
-use Rattle.sweeps.proofs.Naturals.{naturals_laws}
+use Rattle.values.proofs.Naturals.{naturals_laws}
 use Rattle.sweeps.proofs.Beams.{voxel_place, no_voxels, no_cells}
 use Rattle.sweeps.proofs.Laid.{laid_only, laid_miss}
 use Rattle.sweeps.proofs.Levels.{summed, swept_joined, swept_within}

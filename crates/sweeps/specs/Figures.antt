@@ -9,9 +9,14 @@ use Rattle.scan.specs.Views.{landing}
 use Rattle.scan.specs.DraftChecks.{draft_check}
 use Rattle.scan.specs.Refusals.{number}
 use Rattle.scan.specs.declared.refusal.Refusal.TheVariants.{SourceTooNear, ColumnBeyond}
-use Rattle.sweeps.specs.Stores.{inner}
-use Rattle.sweeps.specs.Systems.{System, forward, back}
-use Rattle.sweeps.specs.Calls.{system_of}
+use Rattle.calls.specs.Stores.{dot, Stores, three}
+use Rattle.calls.specs.Systems.{System}
+use Rattle.calls.specs.Calls.{forward, back}
+use Rattle.calls.specs.RowLaws.{inner}
+use Rattle.calls.specs.Rows.{outcome, mirrored}
+use Rattle.calls.specs.declared.call.Call.{Call}
+use Rattle.calls.specs.declared.call.Call.TheVariants.{Forward, Back}
+use Rattle.sweeps.specs.Checks.{system_of}
 
 -- A whole number below zero.
 abbrev minus : ℕ → ℤ
@@ -59,6 +64,18 @@ ones = counts (1 ∷ 1 ∷ 1 ∷ 1 ∷ [])
 abbrev pub zeros : List Count
 zeros = counts (0 ∷ 0 ∷ 0 ∷ 0 ∷ [])
 
+-- The row of forward and then back, at view 0.
+abbrev pub there_and_back : List (Call Count)
+there_and_back = Forward 0 (counted 1) ∷ Back 0 (counted 1) ∷ []
+
+-- The start of that row: voxels that are all 1, all else 0.
+abbrev pub row_start : Stores Count
+row_start = three ones (counts (0 ∷ 0 ∷ [])) (counts (0 ∷ 0 ∷ []))
+
+-- Its test stores: working cells 1 and 0, all else 0.
+abbrev pub row_test : Stores Count
+row_test = three zeros (counts (0 ∷ 0 ∷ [])) (counts (1 ∷ 0 ∷ []))
+
 -- The cells of the worked plan at steps 0 and 16, after forward from ones in both views.
 abbrev pub worked_cells : List ℤ
 worked_cells =
@@ -75,8 +92,11 @@ pub record Figures : Type 0 where
   pub far_W : map ((from 0).W 0) (0 ∷ 1 ∷ []) ≡ minus 48 ∷ pos 47 ∷ []
   -- step 0: back from cells 1, 1 onto zeros, its inner product with ones, and forward's with the cells
   pub back_voxels : map shown (back count_ops (at_step 0) 0 (counted 1) (counts (1 ∷ 1 ∷ [])) zeros) ≡ pos 9120 ∷ pos 9025 ∷ pos 10000 ∷ pos 10000 ∷ []
-  pub back_inner : shown (inner count_ops 4 (back count_ops (at_step 0) 0 (counted 1) (counts (1 ∷ 1 ∷ [])) zeros) ones) ≡ pos 38145
-  pub forward_inner : shown (inner count_ops 2 (forward count_ops (at_step 0) 0 (counted 1) ones (counts (0 ∷ 0 ∷ []))) (counts (1 ∷ 1 ∷ []))) ≡ pos 38145
+  pub back_inner : shown (dot count_ops 4 (back count_ops (at_step 0) 0 (counted 1) (counts (1 ∷ 1 ∷ [])) zeros) ones) ≡ pos 38145
+  pub forward_inner : shown (dot count_ops 2 (forward count_ops (at_step 0) 0 (counted 1) ones (counts (0 ∷ 0 ∷ []))) (counts (1 ∷ 1 ∷ []))) ≡ pos 38145
+  -- step 0: the row forward and back, its outcome with the test stores, and its start with the mirrored row's outcome from them
+  pub row_side : shown (inner count_ops (at_step 0) (outcome count_ops (at_step 0) there_and_back row_start) row_test) ≡ pos 19120
+  pub mirrored_side : shown (inner count_ops (at_step 0) row_start (outcome count_ops (at_step 0) (mirrored there_and_back) row_test)) ≡ pos 19120
   -- step 8, the slab from 0 to 100: voxel (0, 1), at place 2, and voxel (1, 1), at place 3, on columns 0 and 1
   pub tie_left : map ((at_step 8).weight 0 2) (0 ∷ 1 ∷ []) ≡ 5130 ∷ 5565 ∷ []
   pub tie_right : map ((at_step 8).weight 0 3) (0 ∷ 1 ∷ []) ≡ 0 ∷ 10920 ∷ []

@@ -1,8 +1,8 @@
-pub mod Stores
+pub mod Checks
+pub mod Shadows
+pub mod Tally
 pub mod Runs
 pub mod Strips
 pub mod Tables
 pub mod Passes
-pub mod Systems
-pub mod Calls
 pub mod Figures

@@ -1,13 +1,13 @@
 -- What the loops of a sweep add up, level by level: for readers of the code. The calls' promises do not rest on it.
-use Rattle.std.specs.Prelude.{◌≡◌, ℕ, ◌+◌, ◌*◌, ◌/◌, ◌%◌, ◌<◌, ◌≤◌, List, length, ℤ, pos, None, slice_index_or}
+use Rattle.std.specs.Prelude.{◌≡◌, ℕ, ◌+◌, ◌*◌, ◌/◌, ◌%◌, ◌<◌, ◌≤◌, List, length, ℤ, pos, slice_index_or}
 use Rattle.std.specs.Int.{int_min, int_max}
 use Rattle.values.specs.Laws.{Ops}
 use Rattle.values.specs.Sums.{sum}
 use Rattle.scan.specs.Landing.{Landing, by_slabs, nx, ny, voxels, cells, cross_overlap, height_overlap}
 use Rattle.scan.specs.Scans.{Scan, panel_of}
 use Rattle.scan.specs.Views.{landing}
-use Rattle.sweeps.specs.Calls.{system_of, call_check}
-use Rattle.sweeps.specs.Strips.{naturals, laid, Inside, Gained}
+use Rattle.values.specs.Naturals.{naturals}
+use Rattle.sweeps.specs.Strips.{laid, Inside, Gained}
 use Rattle.sweeps.specs.Tables.{Tabled}
 use Rattle.sweeps.specs.declared.pass.Way.{Way}
 use Rattle.sweeps.specs.declared.pass.Way.TheVariants.{Forward, Back}
@@ -117,10 +117,10 @@ pub record BlockOf (L : Landing) (first count : ℕ) (columns rows : List ℤ) :
   pub columns_are : Tabled columns (count + 1) (λ i. L.S (first + i))
   pub rows_are : Tabled rows (count * (L.rows + 1)) (λ i. L.T (first + i / (L.rows + 1)) (i % (L.rows + 1)))
 
--- A call that is not refused: where the view's cells stand in the working store, and how the view lands.
-pub record Answered (scan : Scan) (view volume working start cells : ℕ) (L : Landing) : Type 0 where
-  pub accepted : call_check (system_of scan) view volume working ≡ None
+-- Where the cells of a view stand in a store of so many places, and how the view lands.
+pub record CellsOf (scan : Scan) (view store start cells : ℕ) (L : Landing) : Type 0 where
+  pub known : view < length scan.steps
+  pub within : start + cells ≤ store
   pub start_is : start ≡ view * panel_of scan
   pub cells_are : cells ≡ panel_of scan
-  pub within : start + cells ≤ working
   pub lands : L ≡ landing scan view

@@ -1,14 +1,11 @@
 -- What the loops of a sweep promise one another: for readers of the code. The calls' promises do not rest on it.
 use Rattle.std.specs.Prelude.{◌≡◌, ℕ, ◌+◌, ◌-◌, ◌*◌, ◌<◌, if◌then◌else◌, List, length, ◌==◌}
 use Rattle.values.specs.Laws.{Ops}
+use Rattle.values.specs.Naturals.{naturals}
 use Rattle.values.specs.Sums.{sum}
-use Rattle.sweeps.specs.Stores.{at}
+use Rattle.calls.specs.Stores.{at}
 use Rattle.sweeps.specs.Runs.{share}
 use Rattle.sweeps.specs.declared.strip.Strip.{Strip}
-
--- Whole numbers, with their own sum and product.
-abbrev pub naturals : Ops ℕ
-naturals = record { zero = 0; plus = λ m n. m + n; times = λ m n. m * n; multiple = λ m n. m * n }
 
 -- What the place p of a store gets of n numbers w, laid on the places start, start + stride, ..
 unfoldable pub laid : ℕ → ℕ → (ℕ → ℕ) → ℕ → ℕ → ℕ

@@ -1,10 +1,10 @@
 ghost use Rattle.std.specs.Prelude.{◌≡◌, length};
 ghost use Rattle.std.specs.Result.{result_err};
 ghost use Rattle.scan.specs.Meanings.{plan_of};
-ghost use Rattle.sweeps.specs.Systems.{back};
-ghost use Rattle.sweeps.specs.Calls.{system_of, call_check, unless_refused};
+ghost use Rattle.calls.specs.Calls.{back};
+ghost use Rattle.sweeps.specs.Checks.{system_of, sweep_check, unless_refused};
 
-use crate::call::checked;
+use crate::call::checked_sweep;
 use crate::pass::{Pass, Way};
 use crate::sweep::sweep;
 use scan::plan::Plan;
@@ -20,17 +20,21 @@ pub fn back<V: Value>(
     volume: &mut [V],
     working: &[V],
 ) -> Result<(), Refusal>
-    ensures answer { result_err result ≡ call_check (system_of (plan_of plan.now)) view (length volume.old) (length working.now) }
-    ensures volume { volume.new ≡ unless_refused (call_check (system_of (plan_of plan.now)) view (length volume.old) (length working.now)) (back V.Value.ops (system_of (plan_of plan.now)) view factor working.now volume.old) volume.old }
+    ensures answer { let s = system_of (plan_of plan.now) in
+        result_err result ≡ sweep_check s view (length volume.old) (length working.now) }
+    ensures volume { let s = system_of (plan_of plan.now) in
+        volume.new
+        ≡ unless_refused (sweep_check s view (length volume.old) (length working.now))
+        (back V.Value.ops s view factor working.now volume.old) volume.old }
 {
     // As `forward`, with the stores exchanged: two calls, since each is lent what the other writes.
-    let call = checked(plan, view, volume.len(), working.len())?;
-    let cells = &working[call.start..call.start + call.cells];
+    let cells = checked_sweep(plan, view, volume.len(), working.len())?;
+    let from = &working[cells.start..cells.start + cells.count];
     let pass = Pass {
-        view: &call.view,
+        view: &cells.view,
         way: Way::Back,
         factor,
-        from: cells,
+        from,
     };
     sweep(&pass, volume);
     Ok(())

@@ -1,5 +1,5 @@
 ghost use Rattle.std.specs.Prelude.{◌≡◌, ℕ, ◌*◌, ◌<◌, length};
-ghost use Rattle.sweeps.specs.Stores.{at};
+ghost use Rattle.calls.specs.Stores.{at};
 ghost use Rattle.sweeps.specs.Strips.{strip_cells, cell_overlap, strip_share, Inside, total, Gained};
 
 use crate::strip::Strip;

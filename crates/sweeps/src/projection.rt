@@ -1,10 +1,10 @@
 ghost use Rattle.std.specs.Prelude.{◌≡◌, length};
 ghost use Rattle.std.specs.Result.{result_err};
 ghost use Rattle.scan.specs.Meanings.{plan_of};
-ghost use Rattle.sweeps.specs.Systems.{forward};
-ghost use Rattle.sweeps.specs.Calls.{system_of, call_check, unless_refused};
+ghost use Rattle.calls.specs.Calls.{forward};
+ghost use Rattle.sweeps.specs.Checks.{system_of, sweep_check, unless_refused};
 
-use crate::call::checked;
+use crate::call::checked_sweep;
 use crate::pass::{Pass, Way};
 use crate::sweep::sweep;
 use scan::plan::Plan;
@@ -20,16 +20,20 @@ pub fn forward<V: Value>(
     volume: &[V],
     working: &mut [V],
 ) -> Result<(), Refusal>
-    ensures answer { result_err result ≡ call_check (system_of (plan_of plan.now)) view (length volume.now) (length working.old) }
-    ensures working { working.new ≡ unless_refused (call_check (system_of (plan_of plan.now)) view (length volume.now) (length working.old)) (forward V.Value.ops (system_of (plan_of plan.now)) view factor volume.now working.old) working.old }
+    ensures answer { let s = system_of (plan_of plan.now) in
+        result_err result ≡ sweep_check s view (length volume.now) (length working.old) }
+    ensures working { let s = system_of (plan_of plan.now) in
+        working.new
+        ≡ unless_refused (sweep_check s view (length volume.now) (length working.old))
+        (forward V.Value.ops s view factor volume.now working.old) working.old }
 {
-    let call = checked(plan, view, volume.len(), working.len())?;
+    let cells = checked_sweep(plan, view, volume.len(), working.len())?;
     let pass = Pass {
-        view: &call.view,
+        view: &cells.view,
         way: Way::Forward,
         factor,
         from: volume,
     };
-    sweep(&pass, &mut working[call.start..call.start + call.cells]);
+    sweep(&pass, &mut working[cells.start..cells.start + cells.count]);
     Ok(())
 }

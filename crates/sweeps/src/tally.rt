@@ -1,5 +1,5 @@
 ghost use Rattle.std.specs.Prelude.{◌≡◌};
-ghost use Rattle.sweeps.specs.Calls.{tallied};
+ghost use Rattle.sweeps.specs.Tally.{tallied};
 
 use values::reach::Reach;
 

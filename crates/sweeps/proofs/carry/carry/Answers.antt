@@ -1,5 +1,5 @@
 use Rattle.std.proofs.Common.{ap, ◌∙◌}
-use Rattle.sweeps.specs.Stores.{at}
+use Rattle.calls.specs.Stores.{at}
 use Rattle.sweeps.specs.Strips.{strip_share}
 use Rattle.sweeps.proofs.Gains.{multiple_total}
 use Rattle.sweeps.proofs.carry.carry.Goals as goal

@@ -1,0 +1,35 @@
+ghost use Rattle.std.specs.Prelude.{◌≡◌, length};
+ghost use Rattle.std.specs.Result.{result_err};
+ghost use Rattle.scan.specs.Meanings.{plan_of};
+ghost use Rattle.calls.specs.Calls.{scale};
+ghost use Rattle.sweeps.specs.Checks.{system_of, scale_check, unless_refused};
+
+use crate::alter::alter;
+use crate::call::checked_scale;
+use scan::plan::Plan;
+use scan::refusal::Refusal;
+use values::value::Value;
+
+/// Multiplies each working cell of the view by the factor.
+pub fn scale<V: Value>(
+    plan: &Plan,
+    view: usize,
+    factor: V,
+    working: &mut [V],
+) -> Result<(), Refusal>
+    ensures answer { let s = system_of (plan_of plan.now) in
+        result_err result ≡ scale_check s view (length working.old) }
+    ensures working { let s = system_of (plan_of plan.now) in
+        working.new
+        ≡ unless_refused (scale_check s view (length working.old))
+        (scale V.Value.ops s view factor working.old) working.old }
+{
+    let cells = checked_scale(plan, view, working.len())?;
+    alter(
+        &mut working[cells.start..cells.start + cells.count],
+        |_: usize, cell: V|
+            ensures { result ≡ V.Value.ops.times factor cell }
+        { factor.times(cell) },
+    );
+    Ok(())
+}
