@@ -1,10 +1,12 @@
 #!/usr/bin/env python3
-"""Expected figures of forward and back projection, for comparison with the library.
+"""Expected figures of the six calls and of rows of them, for comparison with the library.
 
 Written from the definitions in docs/SPECIFICATION.md; it shares no code with the library. It takes every voxel with
 every cell, in exact whole numbers. Python's // rounds down whatever the signs. Run it as `python3 tools/oracle.py`; its
 output is kept in tools/oracle.txt. A failed self-check ends it with an error.
 """
+
+import random
 
 R = 16384
 SINES = [0, 1606, 3196, 4756, 6270, 7723, 9102, 10394, 11585, 12665, 13623, 14449, 15137, 15679, 16069, 16305, 16384]
@@ -136,6 +138,98 @@ def inner(kind, xs, ys):
     for x, y in zip(xs, ys, strict=True):
         total = kind.plus(total, kind.times(x, y))
     return total
+
+
+# The calls between sweeps.
+def take(kind, plan, v, factor, measured, working):
+    out = list(working)
+    for c, m, k in plan.cells(v):
+        out[c] = kind.plus(working[c], kind.times(factor, measured[c]))
+    return out
+
+
+def give(kind, plan, v, factor, measured, working):
+    out = list(measured)
+    for c, m, k in plan.cells(v):
+        out[c] = kind.plus(measured[c], kind.times(factor, working[c]))
+    return out
+
+
+def scale(kind, plan, v, factor, working):
+    out = list(working)
+    for c, m, k in plan.cells(v):
+        out[c] = kind.times(factor, working[c])
+    return out
+
+
+def trim(kind, plan, box, volume):
+    out = list(volume)
+    for p, i, j, l in plan.voxels():
+        if not all(lower <= n < upper for n, (lower, upper) in zip((i, j, l), box)):
+            out[p] = kind.zero
+    return out
+
+
+# Rows. A call is its name, then its view and factor, or its box: (lower, upper) along x, y and z. Stores are volume,
+# measured and working, in this order.
+STORES = dict(forward=(0, 2), back=(0, 2), take=(1, 2), give=(1, 2), scale=(2,), trim=(0,), run=(0, 1, 2))
+TURNED = dict(forward="back", back="forward", take="give", give="take", scale="scale", trim="trim")
+
+
+def refusal(plan, call, lengths):  # number and place, and what is known of it, or none
+    name = call[0]
+    if name not in ("trim", "run") and call[1] >= len(plan.views):
+        return 22, 0, call[1], len(plan.views)
+    wanted = [plan.nx * plan.ny * plan.nz] + [len(plan.views) * plan.rows * plan.columns] * 2
+    for s in STORES[name]:
+        if lengths[s] != wanted[s]:
+            return 23, 0, ("volume", "measured", "working")[s], lengths[s], wanted[s]
+    if name == "trim":
+        for axis, (lower, upper), n in zip("xyz", call[1], (plan.nx, plan.ny, plan.nz)):
+            if not lower <= upper <= n:
+                return 24, 0, axis, lower, upper, n
+    return None
+
+
+def called(kind, plan, call, stores):
+    volume, measured, working = stores
+    name, *rest = call
+    if name == "forward":
+        return volume, measured, forward(kind, plan, *rest, volume, working)
+    if name == "back":
+        return back(kind, plan, *rest, volume, working), measured, working
+    if name == "take":
+        return volume, measured, take(kind, plan, *rest, measured, working)
+    if name == "give":
+        return volume, give(kind, plan, *rest, measured, working), working
+    if name == "scale":
+        return volume, measured, scale(kind, plan, *rest, working)
+    return trim(kind, plan, *rest, volume), measured, working
+
+
+def run(kind, plan, row, stores):  # the outcome, and how many calls were refused
+    refused = 0
+    for call in row:
+        if refusal(plan, call, [len(store) for store in stores]):
+            refused += 1
+        else:
+            stores = called(kind, plan, call, stores)
+    return stores, refused
+
+
+def mirrored(row):
+    return [(TURNED[call[0]], *call[1:]) for call in reversed(row)]
+
+
+def inner_of_stores(kind, a, b):
+    return inner(kind, [x for store in a for x in store], [y for store in b for y in store])
+
+
+def sides(kind, plan, row, start, test):  # of the mirrored row's law
+    there, refused = run(kind, plan, row, start)
+    here, again = run(kind, plan, mirrored(row), test)
+    check(refused == again, "a row and its mirrored row have as many refused calls")
+    return inner_of_stores(kind, there, test), inner_of_stores(kind, start, here)
 
 
 # Self-checks.
@@ -290,8 +384,164 @@ def wide():
     line("back of 1 .. 36 onto zeros", Count, back(Count, plan, 0, 2, [0] * 12, list(range(1, 37))))
 
 
+BOX = ((0, 2), (0, 2), (1, 2))
+
+
+def six(kind):  # the six calls, each on what the others leave
+    return [("forward", 1, kind.of(-1)), ("take", 1, kind.of(5)), ("scale", 1, kind.of(-7)), ("give", 1, kind.of(9)),
+            ("back", 1, kind.of(3)), ("trim", BOX)]
+
+
+def with_refused(kind, row):
+    beyond = ("trim", ((0, 4), (0, 0), (0, 0)))
+    return [each for call in row for each in (call, ("back", 2, kind.of(11)), beyond)]
+
+
+def stores_of(kind, numbers):
+    return tuple([kind.of(n) for n in store] for store in numbers)
+
+
+# For Reach yes is an odd number: one voxel of the start, and of the test stores one working cell that it reaches.
+START = [4, 2, 6, 8, 9, 14, 12, 18, 16, 20, 26, 22], range(100, 124, 2), range(-30, -6, 2)
+TEST = [2, -4, 6, 8, 10, -2, 4, -6, 2, 8, -8, 6], range(-12, 12, 2), [4, 6, -2, 8, 2, 10, -6, 2, 12, -4, 3, 8]
+
+
+def calls():
+    plan = Plan(D=1000, F=2000, **UNEVEN, steps=[5, 20])
+    print("case calls: uneven plan, steps 5 20, view 1")
+    volume, measured, working = stores_of(Count, START)
+    line("volume", Count, volume)
+    line("measured", Count, measured)
+    line("working", Count, working)
+    line("take, factor 5", Count, take(Count, plan, 1, 5, measured, working))
+    line("give, factor -2", Count, give(Count, plan, 1, Count.of(-2), measured, working))
+    line("scale, factor -7", Count, scale(Count, plan, 1, Count.of(-7), working))
+    whole = (0, 3), (0, 2), (0, 2)
+    for box in (((1, 3), (1, 2), (0, 2)), ((1, 1), *whole[1:]), ((3, 3), *whole[1:]), whole,
+                ((2, 3), *whole[1:]), ((0, 3), (0, 1), (0, 2)), ((0, 3), (0, 2), (1, 2)), ((2, 3), (1, 2), (1, 2))):
+        line("trim to %s" % " ".join("%d..%d" % bounds for bounds in box), Count, trim(Count, plan, box, volume))
+
+
+def refused_calls():
+    plan = Plan(D=1000, F=2000, **UNEVEN, steps=[5, 20])
+    print("case refusals of calls: uneven plan, steps 5 20; stores of so many places")
+    fits, short = [12, 12, 12], [11, 11, 11]
+    for name in ("take", "give", "scale"):
+        for view, lengths in ((2, short), (1, [12, 11, 13]), (1, [12, 12, 13])):
+            print("%s of view %d, %s: %s" % (name, view, lengths, refusal(plan, (name, view, 1), lengths)))
+    whole = [(0, 3), (0, 2), (0, 2)]
+    for lengths, *box in ((short, (2, 1), *whole[1:]), (fits, (2, 1), *whole[1:]), (fits, (0, 4), *whole[1:]),
+                          (fits, (0, 3), (2, 1), (0, 2)), (fits, (0, 3), (0, 3), (0, 2)),
+                          (fits, (0, 3), (0, 2), (2, 1)), (fits, (0, 3), (0, 2), (0, 3)),
+                          (fits, (3, 2), (3, 3), (4, 2)), (fits, (3, 3), (3, 3), (4, 2))):
+        print("trim to %s, %s: %s" % (box, lengths, refusal(plan, ("trim", box), lengths)))
+    for lengths in ([11, 13, 12], [12, 13, 11], [12, 12, 11], fits):
+        print("row, %s: %s" % (lengths, refusal(plan, ("run",), lengths)))
+
+
+def rows():
+    plan = Plan(D=1000, F=2000, **SMALL, steps=[0])
+    print("case rows: small plan, step 0: forward and back of ones, test cells 1 0")
+    row = [("forward", 0, 1), ("back", 0, 1)]
+    line("inner products of both sides", Count,
+         sides(Count, plan, row, ([1] * 4, [0] * 2, [0] * 2), ([0] * 4, [0] * 2, [1, 0])))
+    plan = Plan(D=1000, F=2000, **UNEVEN, steps=[5, 20])
+    check_plan("rows", plan)
+    print("case rows: uneven plan, steps 5 20, the six calls")
+    outcome, refused = run(Count, plan, six(Count), stores_of(Count, START))
+    check(refused == 0, "the six calls are accepted")
+    for name, store in zip(("volume", "measured", "working"), outcome):
+        line("outcome " + name, Count, store)
+    again, refused = run(Count, plan, with_refused(Count, six(Count)), stores_of(Count, START))
+    check(again == outcome, "refused calls alter nothing")
+    numbers("refused of the row with two refused calls after each", [refused])
+    for name, kind in (("Count", Count), ("Pair", Pair), ("Reach", Reach)):
+        start, test = stores_of(kind, START), stores_of(kind, TEST)
+        for length in (0, 1, 18):
+            row = with_refused(kind, six(kind))[:length]
+            there, here = sides(kind, plan, row, start, test)
+            check(there == here, "both sides are equal")
+            check(length == 0 or there != kind.zero, "they are not zero")
+            line("%s both sides of the first %d calls" % (name, length), kind, [there, here])
+        turned = [(TURNED[call[0]], *call[1:]) for call in row]
+        check(inner_of_stores(kind, start, run(kind, plan, turned, test)[0]) != there, "the order counts")
+        if kind is not Reach:
+            backwards = run(kind, plan, list(reversed(row)), test)[0]
+            check(inner_of_stores(kind, start, backwards) != there, "the turning counts")
+
+
+def random_rows():
+    rng = random.Random(1)
+    plans = [Plan(D=1000, F=2000, **SMALL, steps=[0, 20]), Plan(D=1000, F=2000, **UNEVEN, steps=[5, 20])]
+
+    def number(share):  # zero but for a share
+        return rng.randrange(2**64) if rng.random() < share else 0
+
+    def stores(kind, plan, share):
+        places = len(plan.views) * plan.rows * plan.columns
+        return stores_of(kind, [[number(share) for p in range(n)] for n in (len(plan.voxels()), places, places)])
+
+    def call(kind, plan):
+        name = rng.choice(sorted(TURNED))
+        if name == "trim":
+            return name, [(rng.randint(0, 1), rng.randint(n - 1, n) + (rng.random() < 0.05))
+                          for n in (plan.nx, plan.ny, plan.nz)]
+        return name, rng.randrange(len(plan.views) + (rng.random() < 0.2)), kind.of(number(0.9))
+
+    def added(kind, a, b):
+        return tuple([kind.plus(x, y) for x, y in zip(*two)] for two in zip(a, b))
+
+    def multiplied(kind, f, a):
+        return tuple([kind.times(f, x) for x in store] for store in a)
+
+    tried = told = refusing = 0
+    for kind in (Count, Pair, Reach):
+        for _ in range(200):
+            plan, share = rng.choice(plans), rng.choice((0.1, 0.3, 1))
+            row = [call(kind, plan) for _ in range(rng.randint(0, 9))]
+            start, other, test = [stores(kind, plan, share) for _ in range(3)]
+            there, here = sides(kind, plan, row, start, test)
+            check(there == here, "the mirrored row is the transpose")
+            outcome, refused = run(kind, plan, row, start)
+            second = run(kind, plan, row, other)[0]
+            check(run(kind, plan, row, added(kind, start, other))[0] == added(kind, outcome, second),
+                  "the outcome of a sum is the sum of the outcomes")
+            f = kind.of(rng.randrange(2**64))
+            check(run(kind, plan, row, multiplied(kind, f, start))[0] == multiplied(kind, f, outcome),
+                  "the outcome of a multiple is the multiple of the outcome")
+            tried, told, refusing = tried + 1, told + (there != kind.zero), refusing + (refused > 0)
+    check(2 * told > tried and 5 * refusing > tried, "random rows tell something")
+    print("random rows of Count, Pair and Reach, matched and linear: %d, all equal" % tried)
+
+
+def landweber():
+    plan = Plan(D=1000, F=2000, **SMALL, steps=[0, 16])
+    print("case iteration: small plan, steps 0 16, Landweber from an image of zeros, measured is the forward of ones")
+    minus = Count.of(-1)
+    shadow = run(Count, plan, [("forward", 0, 1), ("forward", 1, 1)], ([1] * 4, [0] * 4, [0] * 4))[0][2]
+    row = [(name, v, f) for name, f in (("forward", minus), ("take", 1), ("back", 1)) for v in (0, 1)]
+    (image, _, working), refused = run(Count, plan, row, ([0] * 4, shadow, [0] * 4))
+    line("image", Count, image)
+    line("working", Count, working)
+    numbers("refused", [refused])
+
+
+def first_cells():
+    steps = [0, 8, 16, 24, 32]
+    plan = Plan(D=1000, F=2000, **SMALL, steps=steps)
+    print("case first cells: small plan, where cell (0, 0) starts and ends: S 0, S 1, T 0 0, T 0 1")
+    for step, view in zip(steps, plan.views):
+        numbers("step %d" % step, [view.S(0), view.S(1), view.T(0, 0), view.T(0, 1)])
+
+
 small()
+first_cells()
 x_slabs()
 uneven()
 two_more()
 wide()
+calls()
+refused_calls()
+rows()
+random_rows()
+landweber()

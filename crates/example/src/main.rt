@@ -1,6 +1,7 @@
-//! A small plan, projected forward and back.
+//! A small plan, projected forward and back, and one iteration run as a row of calls.
 #![tactic(auto)]
 
+use calls::call::Call;
 use scan::draft::Draft;
 use scan::even::EvenAxis;
 use scan::failure::Failure;
@@ -11,6 +12,7 @@ use std::alloc::Global;
 use std::{fmt, io};
 use sweeps::backprojection::back;
 use sweeps::projection::forward;
+use sweeps::row::run;
 use sweeps::tally::tally;
 use values::count::Count;
 use values::reach::Reach;
@@ -45,6 +47,28 @@ fn shadow(heap: Global, plan: &Plan) -> Result<Vec<Count>, Failure> {
     Ok(working)
 }
 
+// One Landweber iteration from an image of zeros: the measured shadow less the image's own is projected back. Answers the
+// image, and how many calls of the row were refused.
+fn iterated(
+    heap: Global,
+    plan: &Plan,
+    measured: &mut [Count],
+) -> Result<(Vec<Count>, usize), Failure> {
+    let (one, less) = (Count::from(1), Count::from(-1));
+    let mut row = Vec::new(heap);
+    for view in 0..plan.views() {
+        row.push(Call::Forward { view, factor: less })?;
+        row.push(Call::Take { view, factor: one })?;
+    }
+    for view in 0..plan.views() {
+        row.push(Call::Back { view, factor: one })?;
+    }
+    let mut image = vec![in heap; Count::ZERO; plan.voxels()]?;
+    let mut working = vec![in heap; Count::ZERO; plan.places()]?;
+    let refused = run(plan, &row, &mut image, measured, &mut working)?;
+    Ok((image, refused))
+}
+
 // How many voxels some cell of some view reaches.
 fn hits(heap: Global, plan: &Plan) -> Result<usize, Failure> {
     let yes = Reach { yes: true };
@@ -75,19 +99,28 @@ fn at<T: Drop>(what: &'static str, made: Result<T, Failure>) -> Result<T, Stop> 
     made.map_err(|failure| Stop { what, failure })
 }
 
-// A plan, its shadow, and how many voxels are hit.
+// A plan, its shadow, how many voxels are hit, and the image that one iteration makes of the shadow.
 #[derive(Drop)]
 struct Outcome {
     plan: Plan,
     cells: Vec<Count>,
     hit: usize,
+    image: Vec<Count>,
+    refused: usize,
 }
 
 fn project(heap: Global) -> Result<Outcome, Stop> {
     let plan = at("The plan", planned(heap))?;
-    let cells = at("Forward", shadow(heap, &plan))?;
+    let mut cells = at("Forward", shadow(heap, &plan))?;
     let hit = at("Back", hits(heap, &plan))?;
-    Ok(Outcome { plan, cells, hit })
+    let (image, refused) = at("An iteration", iterated(heap, &plan, &mut cells))?;
+    Ok(Outcome {
+        plan,
+        cells,
+        hit,
+        image,
+        refused,
+    })
 }
 
 // The number of a view at a step. A step past the last is refused, and the draft stays as it was.
@@ -123,7 +156,12 @@ fn print_outcome(rt: &impl Print, outcome: &Outcome) -> io::Result<()> {
     let columns = outcome.plan.cells_along(ScanAxis::Column);
     println!(rt; "views {views} rows {rows} columns {columns}")?;
     print_cells(rt, &outcome.plan, &outcome.cells)?;
-    println!(rt; "hit {}", outcome.hit)
+    println!(rt; "hit {}", outcome.hit)?;
+    print!(rt; "image")?;
+    for voxel in &outcome.image {
+        print!(rt; " {voxel}")?;
+    }
+    println!(rt; "\nrefused {}", outcome.refused)
 }
 
 fn main(rt: HostRuntime) -> io::Result<()> {
@@ -136,7 +174,7 @@ fn main(rt: HostRuntime) -> io::Result<()> {
         Err(stop) => println!(rt; "{stop}")?,
     }
     println!(rt;
-        "Views at steps 0 and 16: sealed. Forward from ones as Count, and back from all cells as Reach:"
+        "Views at steps 0 and 16: sealed. Forward from ones as Count, back from all cells as Reach, and one Landweber iteration from zeros:"
     )?;
     match project(rt.alloc()) {
         Ok(outcome) => print_outcome(&rt, &outcome),

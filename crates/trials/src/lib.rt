@@ -6,6 +6,10 @@ mod outcomes;
 #[cfg(test)]
 mod plans;
 #[cfg(test)]
+mod rows_of_calls;
+#[cfg(test)]
+mod small_plans;
+#[cfg(test)]
 mod sweeps_of_plans;
 #[cfg(test)]
 mod texts;

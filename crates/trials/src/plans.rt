@@ -1,4 +1,5 @@
 use crate::outcomes::refused;
+use crate::small_plans::small;
 use scan::axis::Axis;
 use scan::draft::Draft;
 use scan::even::EvenAxis;
@@ -160,5 +161,25 @@ fn a_view_answers_where_edges_land(rt: HostRuntime) -> Result<(), Fail> {
         (-91, -46, -250, -13)
     );
     assert!(rt; plan.view(1).is_none());
+    Ok(())
+}
+
+// The table of docs/ROWS-OF-CALLS.md.
+#[test]
+fn the_first_panel_cell_starts_where_the_formulas_say(rt: HostRuntime) -> Result<(), Fail> {
+    let plan = small(rt.alloc(), &[0, 8, 16, 24, 32])?;
+    let cells = [
+        (-100, 0, -50, 50),
+        (-129, 0, -48, 47),
+        (-100, 0, -50, 50),
+        (157, 0, -53, 52),
+        (100, 0, -50, 50),
+    ];
+    for (number, cell) in cells.iter().enumerate() {
+        let view = plan.view(number).ok_or("no view")?;
+        let across = (view.column_edge(0), view.column_edge(1));
+        let down = (view.row_edge(0, 0), view.row_edge(0, 1));
+        assert_eq!(rt; (across.0, across.1, down.0, down.1), *cell);
+    }
     Ok(())
 }

@@ -2,6 +2,7 @@
 use geometry::no_step::NoStep;
 use scan::failure::Failure;
 use scan::refusal::{Refusal, Store};
+use scan::scan_axis::ScanAxis;
 use std::alloc::{AllocError, Global};
 use std::fmt;
 use std::test::Fail;
@@ -141,6 +142,15 @@ fn texts_of_refused_calls(rt: HostRuntime) -> Result<(), Fail> {
                 wanted: 4,
             },
             "refused by 23 at place 0",
+        ),
+        (
+            Refusal::BoxBounds {
+                axis: ScanAxis::X,
+                lower: 2,
+                upper: 1,
+                cells: 3,
+            },
+            "refused by 24 at place 0",
         ),
     ];
     assert!(rt; shown_as(rt.alloc(), &cases)?);
