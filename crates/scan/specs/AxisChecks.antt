@@ -1,24 +1,28 @@
 -- What is checked of the edges of an axis, in which order, and the refusal that follows.
 use Rattle.std.specs.Option.{option_or, option_map}
 use Rattle.std.specs.Prelude.{ℕ, ◌+◌, ◌-◌, ◌||◌, List, length, ℤ, pos, Option, slice_index_or, unsigned_abs, int_le, nat_lt}
-use Rattle.scan.specs.Axes.{even_edge}
+use Rattle.scan.specs.Axes.{even_edges}
 use Rattle.scan.specs.Verdicts.{refused_where, first_where}
 use Rattle.scan.specs.declared.refusal.Refusal.{Refusal}
 use Rattle.scan.specs.declared.refusal.Refusal.TheVariants.{Count, NotRising, OutOfRange}
 
--- The first of n edges, each by its number, that lies more than the limit from 0.
-abbrev pub first_outside : ℕ → ℕ → (ℕ → ℤ) → Option ℕ
-first_outside limit n edge = first_where (λ i. nat_lt limit (unsigned_abs (edge i))) n
+-- Edge i; past the last, 0.
+abbrev pub edge_or_zero : List ℤ → ℕ → ℤ
+edge_or_zero es i = slice_index_or es i (pos 0)
 
--- The first of n cells whose upper edge is not above its lower one.
-abbrev pub first_not_rising : ℕ → (ℕ → ℤ) → Option ℕ
-first_not_rising n edge = first_where (λ i. int_le (edge (i + 1)) (edge i)) n
+-- The first edge that lies more than the limit from 0.
+abbrev pub first_outside : ℕ → List ℤ → Option ℕ
+first_outside limit es = first_where (λ i. nat_lt limit (unsigned_abs (edge_or_zero es i))) (length es)
 
--- Of n edges all have to lie in range (5), and then each above the one before it (4).
-abbrev pub edges_check : ℕ → (ℕ → ℤ) → Option Refusal
-edges_check n edge =
-    option_or (option_map (λ i. OutOfRange i (edge i)) (first_outside 4194304 n edge))
-    (option_map (λ i. NotRising (i + 1) (edge i) (edge (i + 1))) (first_not_rising (n - 1) edge))
+-- The first cell whose upper edge is not above its lower one.
+abbrev pub first_not_rising : List ℤ → Option ℕ
+first_not_rising es = first_where (λ i. int_le (edge_or_zero es (i + 1)) (edge_or_zero es i)) (length es - 1)
+
+-- All edges have to lie in range (5), and then each above the one before it (4).
+abbrev pub edges_check : List ℤ → Option Refusal
+edges_check es =
+    option_or (option_map (λ i. OutOfRange i (edge_or_zero es i)) (first_outside 4194304 es))
+    (option_map (λ i. NotRising (i + 1) (edge_or_zero es i) (edge_or_zero es (i + 1))) (first_not_rising es))
 
 -- A count has to lie within its limits (2).
 abbrev pub count_check : ℕ → ℕ → ℕ → Option Refusal
@@ -26,8 +30,8 @@ count_check found least most = refused_where (nat_lt found least || nat_lt most 
 
 -- An axis of even cells checks 2, 5, 4: it has 1 to 512 cells, and its edges lie in range and in order.
 abbrev pub even_check : ℤ → ℤ → ℕ → Option Refusal
-even_check first pitch cells = option_or (count_check cells 1 512) (edges_check (cells + 1) (even_edge first pitch))
+even_check first pitch cells = option_or (count_check cells 1 512) (edges_check (even_edges first pitch cells))
 
 -- A listed axis checks 2, 5, 4: it has 2 to 513 edges, and they lie in range and in order.
 abbrev pub listed_check : List ℤ → Option Refusal
-listed_check es = option_or (count_check (length es) 2 513) (edges_check (length es) (λ i. slice_index_or es i (pos 0)))
+listed_check es = option_or (count_check (length es) 2 513) (edges_check es)

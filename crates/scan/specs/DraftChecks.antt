@@ -1,6 +1,6 @@
 -- What is checked of a draft and of its views, in which order, and the refusal that follows.
 use Rattle.std.specs.Option.{option_or, option_map}
-use Rattle.std.specs.Prelude.{ℕ, ◌*◌, ◌||◌, List, length, ℤ, pos, Option, int_lt, nat_le, unsigned_abs}
+use Rattle.std.specs.Prelude.{ℕ, ◌*◌, Bool, ◌||◌, List, length, ℤ, pos, Option, int_lt, nat_le, unsigned_abs}
 use Rattle.scan.specs.Axes.{edge_of, widest}
 use Rattle.scan.specs.Verdicts.{refused_where, first_where}
 use Rattle.scan.specs.declared.refusal.Refusal.{Refusal}
@@ -16,18 +16,28 @@ distances_check source panel =
     option_or (refused_where (int_lt source (pos 1) || int_lt (pos 16777216) source) (SourceDistance source))
     (refused_where (int_lt panel source || int_lt (pos 33554432) panel) (PanelDistance panel source))
 
--- 7 where D is at most twice the farthest edge of x and y, and then 8 for the first edge of the columns that lies as far from 0 as F, or farther.
+-- 7 where D is at most twice the farthest edge of x and y.
+abbrev pub source_check : ℤ → List ℤ → List ℤ → Option Refusal
+source_check source x y = refused_where (nat_le (unsigned_abs source) (2 * widest x y)) (SourceTooNear source (pos (widest x y)))
+
+-- 8 for the first edge of the columns that lies as far from 0 as F, or farther.
+abbrev pub columns_check : ℤ → List ℤ → Option Refusal
+columns_check panel column = option_map (λ i. ColumnBeyond i (edge_of column i) panel) (first_beyond (unsigned_abs panel) column)
+
+-- A draft's distances and axes check 7 and then 8.
 abbrev pub clearance_check : ℤ → ℤ → List ℤ → List ℤ → List ℤ → Option Refusal
-clearance_check source panel x y column =
-    option_or (refused_where (nat_le (unsigned_abs source) (2 * widest x y)) (SourceTooNear source (pos (widest x y))))
-    (option_map (λ i. ColumnBeyond i (edge_of column i) panel) (first_beyond (unsigned_abs panel) column))
+clearance_check source panel x y column = option_or (source_check source x y) (columns_check panel column)
 
 -- A draft checks 6 for D, 6 for F, 7, 8.
 abbrev pub draft_check : ℤ → ℤ → List ℤ → List ℤ → List ℤ → Option Refusal
 draft_check source panel x y column = option_or (distances_check source panel) (clearance_check source panel x y column)
 
--- Adding a view checks 9, a step outside 0 to 63, and then 21, a draft that has 1,024 views.
+-- Whether a number is no step: 0 to 63 are.
+abbrev pub no_step : ℤ → Bool
+no_step step = int_lt step (pos 0) || int_lt (pos 63) step
+
+-- Adding a view checks 9, a number that is no step, and then 21, a draft that has 1,024 views.
 abbrev pub view_check : ℕ → ℤ → Option Refusal
 view_check views step =
-    option_or (refused_where (int_lt step (pos 0) || int_lt (pos 63) step) (StepOutOfRange step))
+    option_or (refused_where (no_step step) (StepOutOfRange step))
     (refused_where (nat_le 1024 views) (DraftFull views))

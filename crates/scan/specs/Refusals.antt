@@ -40,7 +40,11 @@ place (BoxBounds axis lower upper cells) = 0
 abbrev pub refusal_text : Refusal → List ℕ
 refusal_text refusal = codes "refused by " ++ decimal (number refusal) ++ codes " at place " ++ decimal (place refusal)
 
+-- What is printed where there is no memory.
+abbrev pub memory_text : List ℕ
+memory_text = codes "there is no memory"
+
 -- What is printed where something was not made.
 abbrev pub failure_text : Failure → List ℕ
 failure_text (Refused refusal) = refusal_text refusal
-failure_text Memory = codes "there is no memory"
+failure_text Memory = memory_text

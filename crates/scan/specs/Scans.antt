@@ -20,9 +20,9 @@ abbrev pub unviewed : ℤ → ℤ → List ℤ → List ℤ → List ℤ → Lis
 unviewed source panel x y z column row =
     record { source = source; panel = panel; x = x; y = y; z = z; column = column; row = row; steps = [] }
 
--- A scan with one more view, from a step of the turn.
-abbrev pub with_view : Scan → ℕ → Scan
-with_view scan step =
+-- A scan with more views, from steps of the turn.
+abbrev pub with_views : Scan → List ℕ → Scan
+with_views scan steps =
     record {
       source = scan.source;
       panel = scan.panel;
@@ -31,8 +31,12 @@ with_view scan step =
       z = scan.z;
       column = scan.column;
       row = scan.row;
-      steps = scan.steps ++ (step ∷ []);
+      steps = scan.steps ++ steps;
     }
+
+-- A scan with one more view.
+abbrev pub with_view : Scan → ℕ → Scan
+with_view scan step = with_views scan (step ∷ [])
 
 -- The edges of one axis of a scan.
 abbrev pub edges_along : Scan → ScanAxis → List ℤ

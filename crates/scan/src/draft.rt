@@ -8,7 +8,7 @@ ghost use Rattle.scan.specs.Meanings.{draft_of, plan_of};
 
 use crate::accepted::Accepted;
 use crate::axis::Axis;
-use crate::draft_checks::{accepted, check_view};
+use crate::draft_checks::{check_distances, check_view};
 use crate::failure::Failure;
 use crate::layout::Layout;
 use crate::listed::ListedAxis;
@@ -22,8 +22,8 @@ pub struct Draft {
 }
 
 impl<X: Axis, Y: Axis, C: Axis> Accepted<'_, X, Y, C> {
-    // The draft with no views. It keeps the edges that the axes answer.
-    fn draft<Z: Axis, R: Axis>(self, heap: Global, z: &Z, row: &R) -> Result<Draft, AllocError>
+    /// The draft with no views. It keeps the edges that the axes answer, and only memory can fail it.
+    pub fn draft<Z: Axis, R: Axis>(self, heap: Global, z: &Z, row: &R) -> Result<Draft, AllocError>
         ensures { IfOk result (λ d. draft_of d ≡ unviewed self.entry.distances.source self.entry.distances.panel (X.Axis.edges self.entry.x.now) (Y.Axis.edges self.entry.y.now) (Z.Axis.edges z.now) (C.Axis.edges self.entry.column.now) (R.Axis.edges row.now)) }
     {
         Ok(Draft {
@@ -56,7 +56,8 @@ impl Draft {
         ensures { Outcome (draft_check source panel (X.Axis.edges x.now) (Y.Axis.edges y.now) (C.Axis.edges column.now)) (λ d. draft_of d ≡ unviewed source panel (X.Axis.edges x.now) (Y.Axis.edges y.now) (Z.Axis.edges z.now) (C.Axis.edges column.now) (R.Axis.edges row.now)) result }
     {
         // A check that may refuse, and then a making that only memory can fail.
-        let accepted = accepted(source, panel, x, y, column)?;
+        let distances = check_distances(source, panel)?;
+        let accepted = Accepted::new(distances, x, y, column)?;
         Ok(accepted.draft(heap, z, row)?)
     }
 

@@ -2,7 +2,7 @@
 ghost use Rattle.std.specs.Prelude.{◌≡◌, unsigned_abs};
 ghost use Rattle.scan.specs.Verdicts.{Verdict};
 ghost use Rattle.scan.specs.Axes.{greatest};
-ghost use Rattle.scan.specs.DraftChecks.{first_beyond, draft_check, distances_check, clearance_check, view_check};
+ghost use Rattle.scan.specs.DraftChecks.{first_beyond, distances_check, clearance_check, view_check};
 
 use crate::accepted::Accepted;
 use crate::axis::Axis;
@@ -11,10 +11,10 @@ use crate::refusal::Refusal;
 use geometry::distances::{Distances, FARTHEST_PANEL, FARTHEST_SOURCE};
 use geometry::step::Step;
 
-// Refuses D, from the source to the rotation axis, out of its range (6), and then F, from the source to the panel (6).
+/// The distances D, from the source to the rotation axis, and F, from the source to the panel. Checks 6 for D, 6 for F.
 // No `TryFrom`: this crate may not write it, and in that of `Distances` it would need two refusals of its own, which are
 // these two again.
-fn distances_of(source: i32, panel: i32) -> Result<Distances, Refusal>
+pub fn check_distances(source: i32, panel: i32) -> Result<Distances, Refusal>
     ensures { Verdict (distances_check source panel) (λ d. (d.source ≡ source) × (d.panel ≡ panel)) result }
 {
     let source = i64::from(source);
@@ -28,24 +28,24 @@ fn distances_of(source: i32, panel: i32) -> Result<Distances, Refusal>
     Ok(Distances { source, panel })
 }
 
-// The check of a draft, which allocates nothing: 6 for D, 6 for F, 7, 8.
-pub(crate) fn accepted<'a, X: Axis, Y: Axis, C: Axis>(
-    source: i32,
-    panel: i32,
-    x: &'a X,
-    y: &'a Y,
-    column: &'a C,
-) -> Result<Accepted<'a, X, Y, C>, Refusal>
-    ensures { Verdict (draft_check source panel (X.Axis.edges x.now) (Y.Axis.edges y.now) (C.Axis.edges column.now)) (λ a. (a.distances.source ≡ source) × (a.distances.panel ≡ panel) × (X.Axis.edges a.x.now ≡ X.Axis.edges x.now) × (Y.Axis.edges a.y.now ≡ Y.Axis.edges y.now) × (C.Axis.edges a.column.now ≡ C.Axis.edges column.now)) result }
-{
-    let distances = distances_of(source, panel)?;
-    check_clearance(distances, x, y, column)?;
-    Ok(Accepted {
-        distances,
-        x,
-        y,
-        column,
-    })
+impl<'a, X: Axis, Y: Axis, C: Axis> Accepted<'a, X, Y, C> {
+    /// Distances, and the axes that are to go with them. Checks 7, 8, and allocates nothing.
+    pub fn new(
+        distances: Distances,
+        x: &'a X,
+        y: &'a Y,
+        column: &'a C,
+    ) -> Result<Accepted<'a, X, Y, C>, Refusal>
+        ensures { Verdict (clearance_check distances.source distances.panel (X.Axis.edges x.now) (Y.Axis.edges y.now) (C.Axis.edges column.now)) (λ a. (a.distances.source ≡ distances.source) × (a.distances.panel ≡ distances.panel) × (X.Axis.edges a.x.now ≡ X.Axis.edges x.now) × (Y.Axis.edges a.y.now ≡ Y.Axis.edges y.now) × (C.Axis.edges a.column.now ≡ C.Axis.edges column.now)) result }
+    {
+        check_clearance(distances, x, y, column)?;
+        Ok(Accepted {
+            distances,
+            x,
+            y,
+            column,
+        })
+    }
 }
 
 // How far the farthest edge of an axis lies from 0.

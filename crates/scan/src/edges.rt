@@ -1,27 +1,28 @@
 // The checks that the edges of every kind of axis pass before they are an axis.
-ghost use Rattle.std.specs.Prelude.{◌≡◌, ℕ, ◌+◌, ◌-◌, ◌^◌, ◌<◌, ℤ, IfSome};
+ghost use Rattle.std.specs.Prelude.{◌≡◌, ◌+◌, ◌^◌, ◌<◌, List, length, ℤ, IfSome};
+ghost use Rattle.scan.specs.Axes.{Proper};
 ghost use Rattle.scan.specs.Verdicts.{Verdict};
-ghost use Rattle.scan.specs.AxisChecks.{count_check, first_outside, first_not_rising, edges_check};
+ghost use Rattle.scan.specs.AxisChecks.{edge_or_zero, count_check, first_outside, first_not_rising, edges_check, listed_check};
 
+use crate::axis::MOST_CELLS;
 use crate::refusal::Refusal;
 use geometry::edge::FARTHEST_EDGE;
 
-// Edges by number, of which nothing is known yet.
-pub(crate) trait Edges {
-    ghost count: { Self → ℕ };
+/// Edges by number, of which nothing is known yet.
+pub trait Edges {
+    ghost edges: { Self → List ℤ };
 
-    ghost at: { Self → ℕ → ℤ };
+    /// How many there are.
+    fn count(&self) -> usize
+        ensures { result ≡ length (edges self.now) };
 
-    fn len(&self) -> usize
-        ensures { result ≡ count self.now };
-
+    /// Edge i; past the last, 0.
     fn get(&self, i: usize) -> i64
-        requires { i < count self.now }
-        ensures { result ≡ at self.now i };
+        ensures { result ≡ edge_or_zero (edges self.now) i };
 }
 
-// Refuses a count outside its limits (2).
-pub(crate) fn check_count(found: usize, least: usize, most: usize) -> Result<(), Refusal>
+/// Refuses a count outside its limits (2).
+pub fn check_count(found: usize, least: usize, most: usize) -> Result<(), Refusal>
     ensures { Verdict (count_check found least most) (λ _. Unit {0}) result }
 {
     if (least..=most).contains(&found) {
@@ -32,22 +33,19 @@ pub(crate) fn check_count(found: usize, least: usize, most: usize) -> Result<(),
 }
 
 // The first edge more than the limit from 0.
-pub(crate) fn first_outside<E: Edges>(edges: &E, limit: u64) -> Option<usize>
-    ensures value { result ≡ first_outside limit (E.count edges.now) (E.at edges.now) }
-    ensures within { IfSome result (λ i. i < E.count edges.now) }
+fn first_outside<E: Edges>(edges: &E, limit: u64) -> Option<usize>
+    ensures { result ≡ first_outside limit (E.edges edges.now) }
 {
-    (0..edges.len()).find(|&i| edges.get(i).unsigned_abs() > limit)
+    (0..edges.count()).find(|&i| edges.get(i).unsigned_abs() > limit)
 }
 
 // The first cell whose upper edge is not above its lower one.
 fn first_not_rising<E: Edges>(edges: &E) -> Option<usize>
-    ensures value { result ≡ first_not_rising (E.count edges.now - 1) (E.at edges.now) }
-    ensures within { IfSome result (λ i. i < E.count edges.now - 1) }
+    ensures value { result ≡ first_not_rising (E.edges edges.now) }
     ensures size { IfSome result (λ i. i + 1 < 2 ^ 64) }
 {
-    (0..edges.len().saturating_sub(1)).find(
+    (0..edges.count().saturating_sub(1)).find(
         |&i|
-            requires cell { i + 1 < E.count edges.now }
             requires size { i + 1 < 2 ^ 64 }
         { edges.get(i + 1) <= edges.get(i) },
     )
@@ -55,7 +53,7 @@ fn first_not_rising<E: Edges>(edges: &E) -> Option<usize>
 
 // Refuses edges that lie out of range (5), and then those that do not rise (4).
 pub(crate) fn check_edges<E: Edges>(edges: &E) -> Result<(), Refusal>
-    ensures { Verdict (edges_check (E.count edges.now) (E.at edges.now)) (λ _. Unit {0}) result }
+    ensures { Verdict (edges_check (E.edges edges.now)) (λ _. Unit {0}) result }
 {
     if let Some(edge) = first_outside(edges, FARTHEST_EDGE) {
         return Err(Refusal::OutOfRange {
@@ -71,4 +69,13 @@ pub(crate) fn check_edges<E: Edges>(edges: &E) -> Result<(), Refusal>
         });
     }
     Ok(())
+}
+
+/// The checks of an axis whose edges are listed, wherever they are kept: 2, 5, 4. Edges that pass are those of an axis.
+#[tactic(auto, using(crate::proofs::Propers::listed_proper))]
+pub fn check_listed<E: Edges>(edges: &E) -> Result<(), Refusal>
+    ensures { Verdict (listed_check (E.edges edges.now)) (λ _. Proper (E.edges edges.now)) result }
+{
+    check_count(edges.count(), 2, MOST_CELLS + 1)?;
+    check_edges(edges)
 }

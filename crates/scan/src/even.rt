@@ -1,5 +1,5 @@
 // An axis whose cells are all as wide.
-ghost use Rattle.std.specs.Prelude.{◌≡◌, ◌+◌, ◌≤◌};
+ghost use Rattle.std.specs.Prelude.{◌≡◌, ◌+◌, ◌<◌, ◌≤◌};
 ghost use Rattle.scan.specs.Axes.{Proper, even_edge, even_edges};
 ghost use Rattle.scan.specs.Verdicts.{Verdict};
 ghost use Rattle.scan.specs.AxisChecks.{even_check};
@@ -17,18 +17,27 @@ struct Spaced {
     ghost few: { cells ≤ 512 },
 }
 
+impl Spaced {
+    fn edge(&self, i: usize) -> i64
+        requires { i < self.now.cells + 1 }
+        ensures { result ≡ even_edge self.now.first self.now.pitch i }
+    {
+        // `as` for i, since i64 has no From<usize>.
+        i64::from(self.first) + i as i64 * i64::from(self.pitch)
+    }
+}
+
 impl Edges for Spaced {
-    ghost count = { λ s. s.cells + 1 };
+    ghost edges = { λ s. even_edges s.first s.pitch s.cells };
 
-    ghost at = { λ s. even_edge s.first s.pitch };
-
-    fn len(&self) -> usize {
+    #[tactic(auto, using(crate::proofs::Propers::even_length))]
+    fn count(&self) -> usize {
         self.cells + 1
     }
 
+    #[tactic(auto, using(crate::proofs::Propers::even_edge_at, crate::proofs::Propers::even_edge_past))]
     fn get(&self, i: usize) -> i64 {
-        // `as` for i, since i64 has no From<usize>.
-        i64::from(self.first) + i as i64 * i64::from(self.pitch)
+        if i <= self.cells { self.edge(i) } else { 0 }
     }
 }
 
@@ -67,6 +76,6 @@ impl Axis for EvenAxis {
     fn edge(&self, i: usize) -> i32 {
         // The cast loses nothing: each edge lies within 4,194,304 of 0.
         // It is `as`, since no `From` narrows, and `try_from` would test what the type already keeps.
-        self.spaced.get(i.min(self.spaced.cells)) as i32
+        self.spaced.edge(i.min(self.spaced.cells)) as i32
     }
 }

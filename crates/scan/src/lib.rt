@@ -1,11 +1,11 @@
 //! Axes, drafts and sealed plans, and where the edges of a plan's views land.
 #![tactic(auto)]
 
-mod accepted;
+pub mod accepted;
 pub mod axis;
 pub mod draft;
-mod draft_checks;
-mod edges;
+pub mod draft_checks;
+pub mod edges;
 pub mod even;
 pub mod failure;
 pub mod landed;

@@ -1,27 +1,29 @@
 // An axis whose edges are listed.
-ghost use Rattle.std.specs.Prelude.{◌≡◌, length, pos, IfOk, slice_index_or};
+ghost use Rattle.std.specs.Prelude.{◌≡◌, IfOk};
 ghost use Rattle.scan.specs.Axes.{Proper, edge_of, low_of, high_of};
 ghost use Rattle.scan.specs.Verdicts.{Outcome};
 ghost use Rattle.scan.specs.AxisChecks.{listed_check};
 
-use crate::axis::{Axis, MOST_CELLS};
-use crate::edges::{Edges, check_count, check_edges};
+use crate::axis::Axis;
+use crate::edges::{Edges, check_listed};
 use crate::failure::Failure;
 use geometry::cell::Cell;
 use geometry::edge::Edge;
 use std::alloc::{AllocError, Global};
 
 impl Edges for &[i32] {
-    ghost count = { λ s. length s.now };
+    ghost edges = { λ s. s.now };
 
-    ghost at = { λ s i. slice_index_or s.now i (pos 0) };
-
-    fn len(&self) -> usize {
-        (*self).len()
+    fn count(&self) -> usize {
+        self.len()
     }
 
     fn get(&self, i: usize) -> i64 {
-        i64::from(self[i])
+        if i < self.len() {
+            i64::from(self[i])
+        } else {
+            0
+        }
     }
 }
 
@@ -44,8 +46,7 @@ impl ListedAxis {
     pub fn new(heap: Global, edges: &[i32]) -> Result<ListedAxis, Failure>
         ensures { Outcome (listed_check edges.now) (λ a. ⟦<ListedAxis as Axis>⟧.edges a ≡ edges.now) result }
     {
-        check_count(edges.len(), 2, MOST_CELLS + 1)?;
-        check_edges(&edges)?;
+        check_listed(&edges)?;
         Ok(ListedAxis {
             edges: edges.to_vec(heap)?,
         })

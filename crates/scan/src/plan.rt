@@ -29,6 +29,7 @@ impl Plan {
     /// The number of cells of an axis.
     pub fn cells_along(&self, axis: ScanAxis) -> usize
         ensures value { result ≡ cells_of (edges_along (plan_of self.now) axis) }
+        ensures least { 1 ≤ result }
         ensures most { result ≤ 512 }
     {
         self.layout.axis(axis).cells()

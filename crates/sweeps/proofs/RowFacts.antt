@@ -13,7 +13,8 @@ use Rattle.calls.proofs.Built.{fits_kept}
 use Rattle.calls.specs.Systems.{System}
 use Rattle.calls.specs.declared.call.Call.{Call}
 use Rattle.calls.specs.declared.call.Call.TheVariants.{Forward, Back, Take, Give, Scale, Trim}
-use Rattle.sweeps.specs.Checks.{sweep_check, transfer_check, scale_check, trim_check, call_check, unless_refused}
+use Rattle.scan.specs.Verdicts.{unless_refused}
+use Rattle.sweeps.specs.Checks.{sweep_check, transfer_check, scale_check, trim_check, call_check}
 
 module _ {V : Type 0} (s : System) where
   -- a call is refused by its check exactly where a row does not accept it

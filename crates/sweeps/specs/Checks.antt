@@ -1,5 +1,5 @@
--- When the calls on a sealed plan refuse, and what they then leave.
-use Rattle.std.specs.Prelude.{ℕ, not, length, Some, None, Option, ◌==◌}
+-- When the calls on a sealed plan refuse.
+use Rattle.std.specs.Prelude.{ℕ, not, length, Option, ◌==◌}
 use Rattle.std.specs.Option.{option_or}
 use Rattle.scan.specs.Axes.{cells_of}
 use Rattle.scan.specs.Verdicts.{refused_where}
@@ -80,8 +80,3 @@ unfoldable pub row_check : System → ℕ → ℕ → ℕ → Option Refusal
 row_check s volume measured working =
     option_or (store_check Volume volume (voxels s))
     (option_or (store_check Measured measured (places s)) (store_check Working working (places s)))
-
--- What a call leaves of what it changes: the new, or the old where it is refused.
-abbrev pub unless_refused : {A : Type 0} → Option Refusal → A → A → A
-unless_refused None new old = new
-unless_refused (Some refusal) new old = old

@@ -1,8 +1,9 @@
 ghost use Rattle.std.specs.Prelude.{◌≡◌, length};
 ghost use Rattle.std.specs.Result.{result_err};
+ghost use Rattle.scan.specs.Verdicts.{unless_refused};
 ghost use Rattle.scan.specs.Meanings.{plan_of};
 ghost use Rattle.calls.specs.Calls.{back};
-ghost use Rattle.sweeps.specs.Checks.{system_of, sweep_check, unless_refused};
+ghost use Rattle.sweeps.specs.Checks.{system_of, sweep_check};
 
 use crate::call::checked_sweep;
 use crate::pass::{Pass, Way};

@@ -1,11 +1,11 @@
 ghost use Rattle.std.specs.Prelude.{◌≡◌, length};
 ghost use Rattle.std.specs.Result.{result_err};
 ghost use Rattle.scan.specs.Meanings.{plan_of};
-ghost use Rattle.scan.specs.Verdicts.{Verdict};
+ghost use Rattle.scan.specs.Verdicts.{Verdict, unless_refused};
 ghost use Rattle.calls.specs.RowLaws.{Matched, Linear};
 ghost use Rattle.calls.specs.Rows.{made_by, outcome, refusals};
 ghost use Rattle.calls.specs.Stores.{three};
-ghost use Rattle.sweeps.specs.Checks.{system_of, call_check, row_check, unless_refused};
+ghost use Rattle.sweeps.specs.Checks.{system_of, call_check, row_check};
 ghost use Rattle.sweeps.specs.Shadows.{Conserved};
 
 use crate::backprojection::back;

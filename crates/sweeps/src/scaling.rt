@@ -1,8 +1,9 @@
 ghost use Rattle.std.specs.Prelude.{◌≡◌, length};
 ghost use Rattle.std.specs.Result.{result_err};
+ghost use Rattle.scan.specs.Verdicts.{unless_refused};
 ghost use Rattle.scan.specs.Meanings.{plan_of};
 ghost use Rattle.calls.specs.Calls.{scale};
-ghost use Rattle.sweeps.specs.Checks.{system_of, scale_check, unless_refused};
+ghost use Rattle.sweeps.specs.Checks.{system_of, scale_check};
 
 use crate::alter::alter;
 use crate::call::checked_scale;

@@ -1,9 +1,10 @@
 ghost use Rattle.std.specs.Prelude.{◌≡◌, ℕ, ◌<◌, length};
 ghost use Rattle.std.specs.Result.{result_err};
+ghost use Rattle.scan.specs.Verdicts.{unless_refused};
 ghost use Rattle.scan.specs.Meanings.{plan_of};
 ghost use Rattle.calls.specs.Stores.{at};
 ghost use Rattle.calls.specs.Calls.{transfer};
-ghost use Rattle.sweeps.specs.Checks.{system_of, transfer_check, unless_refused};
+ghost use Rattle.sweeps.specs.Checks.{system_of, transfer_check};
 
 use crate::alter::alter;
 use crate::call::checked_transfer;

@@ -1,11 +1,12 @@
 ghost use Rattle.std.specs.Prelude.{◌≡◌, ℕ, ◌<◌, ◌&&◌, if◌then◌else◌, length};
 ghost use Rattle.std.specs.Result.{result_err};
+ghost use Rattle.scan.specs.Verdicts.{unless_refused};
 ghost use Rattle.scan.specs.Meanings.{plan_of};
 ghost use Rattle.scan.specs.Scans.{voxels_of};
 ghost use Rattle.calls.specs.Boxes.{contains, box_contains, in_box};
 ghost use Rattle.calls.specs.Calls.{trim};
 ghost use Rattle.calls.specs.Stores.{at};
-ghost use Rattle.sweeps.specs.Checks.{system_of, trim_check, unless_refused};
+ghost use Rattle.sweeps.specs.Checks.{system_of, trim_check};
 
 use crate::alter::alter;
 use crate::call::checked_trim;

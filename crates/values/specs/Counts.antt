@@ -25,3 +25,7 @@ shown x = to_z w64 x.bits
 -- The 64 bits, in two's complement, of a signed number.
 abbrev pub bits_of : ℤ → ℕ
 bits_of z = of_z w64 z
+
+-- The Count of a signed number.
+abbrev pub count_of : ℤ → Count
+count_of z = counted (bits_of z)
