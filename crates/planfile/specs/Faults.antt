@@ -1,0 +1,38 @@
+-- The number, the place and the text of each fault of a file.
+use Rattle.std.specs.Prelude.{ℕ, List, ◌++◌, codes}
+use Rattle.std.specs.Fmt.{decimal}
+use Rattle.scan.specs.declared.refusal.Refusal.{Refusal}
+use Rattle.scan.specs.Refusals.{number as refusal_number, memory_text}
+use Rattle.planfile.specs.declared.fault.Fault.{Fault}
+use Rattle.planfile.specs.declared.fault.Fault.TheVariants.{Incomplete, Trailing, Refused}
+use Rattle.planfile.specs.declared.read_failure.ReadFailure.{ReadFailure}
+use Rattle.planfile.specs.declared.read_failure.ReadFailure.TheVariants as failures
+
+-- The number that stands for the condition.
+abbrev pub number : Fault → ℕ
+number (Incomplete p) = 1
+number (Trailing p) = 3
+number (Refused placed) = refusal_number placed.refusal
+
+-- The byte at which what is refused begins.
+abbrev pub place : Fault → ℕ
+place (Incomplete p) = p
+place (Trailing p) = p
+place (Refused placed) = placed.place
+
+-- A refusal of what begins at place p.
+abbrev pub refused_at : ℕ → Refusal → Fault
+refused_at p refusal = Refused (record { refusal = refusal; place = p })
+
+-- What is printed of a number and a place.
+abbrev pub told_text : ℕ → ℕ → List ℕ
+told_text n p = codes "refused " ++ decimal n ++ codes " at " ++ decimal p
+
+-- What is printed of a fault.
+abbrev pub fault_text : Fault → List ℕ
+fault_text fault = told_text (number fault) (place fault)
+
+-- What is printed where a plan was not read.
+abbrev pub failure_text : ReadFailure → List ℕ
+failure_text (failures.Refused fault) = fault_text fault
+failure_text failures.Memory = memory_text

@@ -1,0 +1,20 @@
+-- Sections: a count, and then as many numbers. A file has eight: the distances, the edges of x, y, z, the columns and the rows, the steps, and the values of the voxels.
+use Rattle.std.specs.Prelude.{ℕ, zero, suc, ◌+◌, ◌*◌, List, ℤ}
+use Rattle.planfile.specs.Numbers.{count_at, numbers_from}
+
+-- The place of number i of a section whose count stands at place p.
+abbrev pub place_of : ℕ → ℕ → ℕ
+place_of p i = p + 4 + 4 * i
+
+-- The numbers of the section that begins at place p.
+unfoldable pub section_at : List ℕ → ℕ → List ℤ
+section_at bytes p = numbers_from bytes (p + 4) (count_at bytes p)
+
+-- Where the section that begins at place p ends.
+unfoldable pub end_of : List ℕ → ℕ → ℕ
+end_of bytes p = place_of p (count_at bytes p)
+
+-- Where the first k sections end, and the next begins: none end at place 0.
+unfoldable pub start : List ℕ → ℕ → ℕ
+start bytes zero = 0
+start bytes (suc k) = end_of bytes (start bytes k)

@@ -1,0 +1,15 @@
+//! Plans and the values of their voxels, read from bytes.
+#![tactic(auto)]
+
+mod axes;
+pub mod bytes_axis;
+mod clearance;
+mod cursor;
+pub mod fault;
+pub mod numbers;
+pub mod placed;
+pub mod plan;
+pub mod read_failure;
+mod section;
+mod sections;
+pub mod voxels;

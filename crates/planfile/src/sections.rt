@@ -1,0 +1,105 @@
+// The sections of a plan, read one after the other.
+ghost use Rattle.std.specs.Prelude.{◌≡◌, ◌^◌, ◌<◌, ◌≤◌, length, IfSome, OnOk};
+ghost use Rattle.scan.specs.Verdicts.{Verdict};
+ghost use Rattle.planfile.specs.Numbers.{numbers_in};
+ghost use Rattle.planfile.specs.Sections.{section_at, end_of, start};
+ghost use Rattle.planfile.specs.Kept.{AxesOf};
+ghost use Rattle.planfile.specs.FileChecks.{entry, first_no_step, distances_section, axis_section, steps_section, axes_check};
+
+use crate::axes::Axes;
+use crate::bytes_axis::BytesAxis;
+use crate::cursor::Cursor;
+use crate::fault::Fault;
+use crate::numbers::Numbers;
+use crate::section::refused_number;
+use geometry::distances::Distances;
+use geometry::step::LAST_STEP;
+use scan::axis::{Axis, MOST_CELLS};
+use scan::draft_checks::check_distances;
+use scan::plan::MOST_VIEWS;
+use scan::refusal::Refusal;
+
+// The first of some numbers that is no step.
+fn first_no_step(numbers: &Numbers<'_>) -> Option<usize>
+    ensures value { result ≡ first_no_step (numbers_in numbers.now.bytes.now) }
+    ensures within { IfSome result (λ i. i < length (numbers_in numbers.now.bytes.now)) }
+{
+    (0..numbers.len()).find(|&i| !(0..=LAST_STEP).contains(&numbers.number(i)))
+}
+
+impl<'a> Cursor<'a> {
+    // Reads the section of the distances (1, 2, 1, 6 for D, 6 for F).
+    #[tactic(auto, using(std::proofs::lemmas::Result::err_from_is_err_and), unfolding(crate::specs::FileChecks::distances_section))]
+    pub(crate) fn distances(&mut self) -> Result<Distances, Fault>
+        ensures answer { let b = self.old.bytes.now in let p = self.old.offset in
+            Verdict (distances_section b p) (λ d. (d.source ≡ entry b p 0) × (d.panel ≡ entry b p 1)) result }
+        ensures bytes { self.new.bytes.now ≡ self.old.bytes.now }
+        ensures moved { OnOk result (self.new.offset ≡ end_of self.old.bytes.now self.old.offset) }
+    {
+        let section = self.section(2, 2)?;
+        match check_distances(section.numbers.number(0), section.numbers.number(1)) {
+            Ok(distances) => Ok(distances),
+            Err(refusal) => Err(refused_number(section.start, refusal.place(), refusal).into()),
+        }
+    }
+
+    // Reads the section of an axis (1, 2, 1, 5, 4).
+    #[tactic(auto, using(std::proofs::lemmas::Result::err_from_is_err_and), unfolding(crate::specs::FileChecks::axis_section))]
+    pub(crate) fn axis(&mut self) -> Result<BytesAxis<'a>, Fault>
+        ensures answer { let b = self.old.bytes.now in let p = self.old.offset in
+            Verdict (axis_section b p) (λ a. (⟦<BytesAxis<'static> as Axis>⟧.edges a ≡ section_at b p) × (end_of b p < 2 ^ 64)) result }
+        ensures bytes { self.new.bytes.now ≡ self.old.bytes.now }
+        ensures moved { OnOk result (self.new.offset ≡ end_of self.old.bytes.now self.old.offset) }
+    {
+        let section = self.section(2, MOST_CELLS + 1)?;
+        match BytesAxis::new(section.numbers) {
+            Ok(axis) => Ok(axis),
+            Err(refusal) => Err(refused_number(section.start, refusal.place(), refusal).into()),
+        }
+    }
+
+    // Reads the section of the steps (1, 2, 1, 9).
+    #[tactic(auto, using(std::proofs::lemmas::Result::err_from_is_err_and), unfolding(crate::specs::FileChecks::steps_section))]
+    pub(crate) fn steps(&mut self) -> Result<Numbers<'a>, Fault>
+        ensures answer { let b = self.old.bytes.now in let p = self.old.offset in
+            Verdict (steps_section b p) (λ steps. (numbers_in steps.bytes.now ≡ section_at b p) × (first_no_step (numbers_in steps.bytes.now) ≡ None) × (length (numbers_in steps.bytes.now) ≤ 1024) × (end_of b p ≤ length b)) result }
+        ensures bytes { self.new.bytes.now ≡ self.old.bytes.now }
+        ensures moved { OnOk result (self.new.offset ≡ end_of self.old.bytes.now self.old.offset) }
+    {
+        let section = self.section(0, MOST_VIEWS)?;
+        match first_no_step(&section.numbers) {
+            None => Ok(section.numbers),
+            Some(i) => {
+                let step = i64::from(section.numbers.number(i));
+                let refusal = Refusal::StepOutOfRange { step };
+                Err(refused_number(section.start, i, refusal).into())
+            }
+        }
+    }
+
+    // Reads the distances and the five axes, section by section.
+    #[tactic(auto, using(std::proofs::lemmas::Result::err_from_is_err_and), unfolding(crate::specs::FileChecks::axes_check, crate::specs::Sections::start))]
+    pub(crate) fn axes(&mut self) -> Result<Axes<'a>, Fault>
+        requires { self.old.offset ≡ 0 }
+        ensures answer { Verdict (axes_check self.old.bytes.now) (λ axes. AxesOf self.old.bytes.now axes) result }
+        ensures bytes { self.new.bytes.now ≡ self.old.bytes.now }
+        ensures moved { OnOk result (self.new.offset ≡ start self.old.bytes.now 6) }
+    {
+        let distances = self.distances()?;
+        let x = self.axis()?;
+        let y = self.axis()?;
+        let z = self.axis()?;
+        let column_start = self.offset;
+        let column = self.axis()?;
+        let row = self.axis()?;
+        Ok(Axes {
+            distances,
+            x,
+            y,
+            z,
+            column_start,
+            column,
+            row,
+        })
+    }
+}
