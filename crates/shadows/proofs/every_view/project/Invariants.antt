@@ -1,0 +1,8 @@
+use Rattle.scan.specs.Meanings.{plan_of}
+use Rattle.sweeps.specs.Checks.{system_of}
+use Rattle.shadows.proofs.EveryView.{ProjectedTo}
+use Rattle.shadows.proofs.every_view.project.Given as goal
+
+abbrev pub invariant-loop-view : goal.invariant-loop-view
+invariant-loop-view g l =
+    ProjectedTo g.V.Value.ops (system_of (plan_of l.plan)) l.factor l.volume l.view l.working

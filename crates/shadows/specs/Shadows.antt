@@ -1,0 +1,55 @@
+-- The shadow of a file.
+use Rattle.std.specs.Option.{option_or, option_map}
+use Rattle.std.specs.Prelude.{◌≡◌, ℕ, ◌||◌, List, length, pos, nat_lt, true, vec_items, Option, Some, None, Result, Ok, Err}
+use Rattle.values.specs.Counts.{count_ops}
+use Rattle.values.specs.Reaches.{reach_ops, reached}
+use Rattle.scan.specs.Axes.{cells_of}
+use Rattle.scan.specs.Scans.{Scan, voxels_of, places_of}
+use Rattle.scan.specs.Verdicts.{refused_where}
+use Rattle.calls.specs.Stores.{built}
+use Rattle.calls.specs.Systems.{places}
+use Rattle.planfile.specs.Sections.{start}
+use Rattle.planfile.specs.FileChecks.{plan_check, voxels_check}
+use Rattle.planfile.specs.Plans.{scan_in}
+use Rattle.values.specs.Counts.{count_of}
+use Rattle.values.specs.declared.count.Count.{Count}
+use Rattle.sweeps.specs.Checks.{system_of}
+use Rattle.sweeps.specs.Tally.{tallied}
+use Rattle.shadows.specs.EveryView.{projected, backprojected}
+use Rattle.shadows.specs.declared.refusal.Refusal.{Refusal}
+use Rattle.shadows.specs.declared.refusal.Refusal.TheVariants.{File, TooLarge}
+use Rattle.shadows.specs.declared.failure.Failure.{Failure}
+use Rattle.shadows.specs.declared.failure.Failure.TheVariants.{Refused, Memory}
+use Rattle.shadows.specs.declared.shadow.Shadow.{Shadow}
+
+-- 10, for a plan of more than 4,096 voxels, or of more than 4,096 cells over all its views; p is where its voxels would begin.
+abbrev pub size_check : Scan → ℕ → Option Refusal
+size_check scan p = refused_where (nat_lt 4096 (voxels_of scan) || nat_lt 4096 (places_of scan)) (TooLarge (voxels_of scan) (places_of scan) p)
+
+-- Of a file the plan is checked, then come 10, and the section of the voxels, which follows the plan's seven.
+unfoldable pub shadow_check : List ℕ → Option Refusal
+shadow_check bytes =
+    option_or (option_map File (plan_check bytes))
+    (option_or (size_check (scan_in bytes) (start bytes 7)) (option_map File (voxels_check bytes (start bytes 7) (voxels_of (scan_in bytes)))))
+
+-- The cells of a scan's shadow: its voxels projected forward in every view, as Count with factor 1.
+abbrev pub cells_seen : Scan → List Count → List Count
+cells_seen scan volume = projected count_ops (system_of scan) (count_of (pos 1)) volume
+
+-- How many voxels of a scan are hit: those that are yes after back from every view onto voxels all no, as Reach, with the factor and all cells yes.
+abbrev pub voxels_hit : Scan → ℕ
+voxels_hit scan = tallied (backprojected reach_ops (system_of scan) (reached true) (built (places (system_of scan)) (λ _. reached true)))
+
+-- The shadow of a scan whose voxels have these values: how many views, rows and columns there are, the cells of all views, and how many voxels are hit.
+pub record ShadowOf (scan : Scan) (volume : List Count) (shadow : Shadow) : Type 0 where
+  pub views : shadow.views ≡ length scan.steps
+  pub rows : shadow.rows ≡ cells_of scan.row
+  pub columns : shadow.columns ≡ cells_of scan.column
+  pub cells : vec_items shadow.cells ≡ cells_seen scan volume
+  pub hit : shadow.hit ≡ voxels_hit scan
+
+-- What a step of making a shadow answers: a value of which P holds where the check finds nothing, and else what it finds; or that there is no memory, in which case `early` holds, since want of memory may show before all is checked.
+abbrev pub ShadowOutcome : {A : Type 0} → Option Refusal → Type 0 → (A → Type 0) → Result A Failure → Type 0
+ShadowOutcome check early P (Ok value) = (check ≡ None) × P value
+ShadowOutcome check early P (Err (Refused refusal)) = check ≡ Some refusal
+ShadowOutcome check early P (Err Memory) = early

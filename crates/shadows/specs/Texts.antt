@@ -1,0 +1,44 @@
+-- What is printed of a shadow.
+use Rattle.std.specs.Prelude.{ℕ, ◌*◌, ◌/◌, ◌%◌, List, [], ◌∷◌, ◌++◌, length, codes, vec_items}
+use Rattle.std.specs.Fmt.{decimal, signed_decimal}
+use Rattle.std.specs.List.{flat_map, range_with_len}
+use Rattle.values.specs.Counts.{count_ops, shown}
+use Rattle.values.specs.declared.count.Count.{Count}
+use Rattle.calls.specs.Stores.{at}
+use Rattle.shadows.specs.Refusals.{refusal_text}
+use Rattle.shadows.specs.declared.answer.Answer.{Answer}
+use Rattle.shadows.specs.declared.answer.Answer.TheVariants as answers
+use Rattle.shadows.specs.declared.shadow.Shadow.{Shadow}
+
+-- The end of a line.
+abbrev pub newline : List ℕ
+newline = 10 ∷ []
+
+-- The first line: the numbers of views, and of the rows and columns of the panel.
+abbrev pub head_text : Shadow → List ℕ
+head_text s = codes "views " ++ decimal s.views ++ codes " rows " ++ decimal s.rows ++ codes " columns " ++ decimal s.columns ++ newline
+
+-- The line of a cell: its view, row and column, and its value as a signed number.
+abbrev pub cell_text : ℕ → ℕ → ℕ → Count → List ℕ
+cell_text view row column value = decimal view ++ codes " " ++ decimal row ++ codes " " ++ decimal column ++ codes " " ++ signed_decimal (shown value) ++ newline
+
+-- The line of the cell at place i: in a view the places go row by row, and in a row column by column.
+abbrev pub place_text : Shadow → ℕ → List ℕ
+place_text s i = cell_text (i / (s.rows * s.columns)) (i / s.columns % s.rows) (i % s.columns) (at count_ops (vec_items s.cells) i)
+
+-- The lines of the cells at the first n places.
+abbrev pub places_text : Shadow → ℕ → List ℕ
+places_text s n = flat_map (place_text s) (range_with_len 0 n)
+
+-- The last line: how many voxels are hit.
+abbrev pub hit_text : Shadow → List ℕ
+hit_text s = codes "hit " ++ decimal s.hit ++ newline
+
+-- The whole text: the first line, a line for each cell, and the last line.
+abbrev pub shadow_text : Shadow → List ℕ
+shadow_text s = head_text s ++ places_text s (length (vec_items s.cells)) ++ hit_text s
+
+-- What the program prints: the text of the shadow, or the line of the refusal.
+abbrev pub answer_text : Answer → List ℕ
+answer_text (answers.Shadow shadow) = shadow_text shadow
+answer_text (answers.Refused refusal) = refusal_text refusal ++ newline

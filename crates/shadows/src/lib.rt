@@ -1,0 +1,10 @@
+//! What the panel sees of the voxels of a plan file.
+#![tactic(auto)]
+
+pub mod answer;
+mod every_view;
+pub mod failure;
+pub mod file;
+pub mod input;
+pub mod refusal;
+pub mod shadow;

@@ -1,0 +1,1142 @@
+#!/usr/bin/env python3
+"""Plan files, and what the program `shadow` prints for each of them.
+
+This program is made apart from the library and shares no code with it. It is
+written from docs/PLAN-FILES.md (the files, the checks, the lines that are
+printed) and from docs/SPECIFICATION.md (axes, steps, landed edges, weights,
+kinds of value), and from nothing else. Part 1 says what `shadow` prints for
+any input: straight from the definitions, every voxel with every cell, in exact
+whole numbers. Part 2 makes several hundred inputs, some by hand and some by
+chance from a fixed seed.
+
+    python3 tools/plan_files.py
+
+makes all inputs and answers anew in memory, compares them with what lies in
+crates/plan_files (`data/` and `stdout`), and names each file that differs, is
+missing or is too many. It ends with status 1 if there is any, and else prints
+`nothing differs`.
+
+    python3 tools/plan_files.py --write
+
+writes them, and removes the files data/*.plan that are no longer made.
+
+`data/` holds the inputs: `case-NAME.plan`, made by hand, and
+`random-NNN.plan`, made by chance. Its file `list` has their names in order,
+one a line. `stdout` has for each of them, in that order, a line with its name
+and then its answer: what the program of crates/plan_files must print.
+
+Before anything else the program checks itself against the figures in the two
+documents, and every case made by hand against what it was made to show. Where
+one of these fails it ends with an error.
+"""
+
+import random
+import re
+import sys
+from collections import namedtuple
+from pathlib import Path
+
+# ---------------------------------------------------------------------------
+# Part 1: the answer to an input
+# ---------------------------------------------------------------------------
+
+R = 16384
+SINES = (0, 1606, 3196, 4756, 6270, 7723, 9102, 10394, 11585, 12665, 13623,
+         14449, 15137, 15679, 16069, 16305, 16384)
+
+MOST_SOURCE = 2**24      # the greatest D
+MOST_PANEL = 2**25       # the greatest F
+MOST_EDGE = 4_194_304    # the greatest |edge|
+MOST_EDGES = 513         # edges of one axis
+MOST_VIEWS = 1_024
+MOST_STEP = 63
+MOST_SHOWN = 4_096       # voxels, and cells over all views, that `shadow` takes
+LONGEST = 22_644         # bytes; of a longer input one byte more is read
+
+Plan = namedtuple("Plan", "source panel x y z columns rows steps")
+
+
+class Refused(Exception):
+    """A check that failed: its number, and the byte it is about."""
+
+    def __init__(self, number, place):
+        super().__init__(number, place)
+        self.number = number
+        self.place = place
+
+
+class Reader:
+    """Takes the sections of a file one after the other."""
+
+    def __init__(self, data):
+        self.data = data
+        self.at = 0
+
+    def section(self, least, most):
+        """The next section's numbers, and the place of the first of them."""
+        count_at = self.at
+        if len(self.data) < count_at + 4:
+            raise Refused(1, count_at)
+        count = int.from_bytes(self.data[count_at:count_at + 4], "little")
+        if not least <= count <= most:
+            raise Refused(2, count_at)
+        first = count_at + 4
+        whole = (len(self.data) - first) // 4
+        if whole < count:
+            raise Refused(1, first + 4 * whole)
+        self.at = first + 4 * count
+        return [self.number(first + 4 * i) for i in range(count)], first
+
+    def number(self, place):
+        """The signed number at a place."""
+        return int.from_bytes(self.data[place:place + 4], "little", signed=True)
+
+
+def refuse_first(number, first, faults):
+    """Refuses at the first number with a fault; number 0 stands at `first`."""
+    for i, fault in enumerate(faults):
+        if fault:
+            raise Refused(number, first + 4 * i)
+
+
+def read_distances(reader):
+    """Section 1: D and F, and the place of D."""
+    (source, panel), first = reader.section(2, 2)
+    if not 1 <= source <= MOST_SOURCE:
+        raise Refused(6, first)
+    if not source <= panel <= MOST_PANEL:
+        raise Refused(6, first + 4)
+    return source, panel, first
+
+
+def read_edges(reader):
+    """One of sections 2 to 6: the edges, and the place of the first."""
+    edges, first = reader.section(2, MOST_EDGES)
+    refuse_first(5, first, [abs(edge) > MOST_EDGE for edge in edges])
+    refuse_first(4, first, [i > 0 and edges[i] <= edges[i - 1] for i in range(len(edges))])
+    return edges, first
+
+
+def read_steps(reader):
+    """Section 7: the steps of the views."""
+    steps, first = reader.section(0, MOST_VIEWS)
+    refuse_first(9, first, [not 0 <= step <= MOST_STEP for step in steps])
+    return steps
+
+
+def read_plan(reader):
+    """Sections 1 to 7."""
+    source, panel, source_at = read_distances(reader)
+    x, _ = read_edges(reader)
+    y, _ = read_edges(reader)
+    z, _ = read_edges(reader)
+    columns, columns_at = read_edges(reader)
+    rows, _ = read_edges(reader)
+    if source <= 2 * max(abs(edge) for edge in x + y):
+        raise Refused(7, source_at)
+    refuse_first(8, columns_at, [abs(edge) >= panel for edge in columns])
+    return Plan(source, panel, x, y, z, columns, rows, read_steps(reader))
+
+
+def cells_along(edges):
+    """The number of cells of an axis."""
+    return len(edges) - 1
+
+
+def voxels_of(plan):
+    """The plan's number of voxels."""
+    return cells_along(plan.x) * cells_along(plan.y) * cells_along(plan.z)
+
+
+def places_of(plan):
+    """The plan's number of cells over all its views."""
+    return len(plan.steps) * cells_along(plan.rows) * cells_along(plan.columns)
+
+
+def read_file(data):
+    """The plan and the values of its voxels."""
+    reader = Reader(data)
+    plan = read_plan(reader)
+    if voxels_of(plan) > MOST_SHOWN or places_of(plan) > MOST_SHOWN:
+        raise Refused(10, reader.at)
+    values, _ = reader.section(voxels_of(plan), voxels_of(plan))
+    if reader.at < len(data):
+        raise Refused(3, reader.at)
+    return plan, values
+
+
+def sine_and_cosine(step):
+    """s and c of a step, from the turn table."""
+    h, r = divmod(step, 16)
+    up, down = SINES[r], SINES[16 - r]
+    return ((up, down), (down, -up), (-up, -down), (-down, up))[h]
+
+
+def stretches(edges):
+    """Each edge with the one after it."""
+    return list(zip(edges, edges[1:]))
+
+
+def overlap(one, other):
+    """The overlap of two stretches, whose ends may stand in either order."""
+    return max(0, min(max(one), max(other)) - max(min(one), min(other)))
+
+
+class View:
+    """One view: its stretches between landed edges, and the weights."""
+
+    def __init__(self, plan, step):
+        s, c = sine_and_cosine(step)
+        self.slabs_of_y = abs(c) >= abs(s)
+        if self.slabs_of_y:
+            a, b, sign, slabs, cross = c, s, 1, plan.y, plan.x
+        else:
+            a, b, sign, slabs, cross = s, -c, -1, plan.x, plan.y
+        d, f = plan.source, plan.panel
+        sums = [sign * (p + q) for p, q in stretches(slabs)]
+        # // is the whole number not above the quotient, whatever the signs.
+        self.u = [stretches([d * (2 * e * a + q * b) // (2 * d * a - R * q) for e in cross])
+                  for q in sums]
+        self.w = [stretches([2 * d * a * z // (2 * d * a - R * q) for z in plan.z])
+                  for q in sums]
+        self.s = stretches([d * R * k // (f * a - k * b) for k in plan.columns])
+        self.t = [stretches([2 * d * a * g // (2 * f * a - (k + next_k) * b) for g in plan.rows])
+                  for k, next_k in stretches(plan.columns)]
+
+    def weight(self, voxel, cell):
+        """The weight of voxel (i, j, l) and the cell of row m and column k."""
+        i, j, l = voxel
+        m, k = cell
+        slab, across = (j, i) if self.slabs_of_y else (i, j)
+        return overlap(self.u[slab][across], self.s[k]) * overlap(self.w[slab][l], self.t[k][m])
+
+
+def as_count(number):
+    """A whole number modulo 2^64, as a signed one."""
+    return (number + 2**63) % 2**64 - 2**63
+
+
+def voxels_in_order(plan):
+    """All voxels (i, j, l) in the order of their places: x first, then y, then z."""
+    return [(i, j, l)
+            for l in range(cells_along(plan.z))
+            for j in range(cells_along(plan.y))
+            for i in range(cells_along(plan.x))]
+
+
+def cells_in_order(plan):
+    """All cells (m, k) of one view in the order of their places: row, then column."""
+    return [(m, k)
+            for m in range(cells_along(plan.rows))
+            for k in range(cells_along(plan.columns))]
+
+
+def seen_from(plan, values, step):
+    """The value of each cell in a view from a step, and the voxels that it hits."""
+    view, voxels = View(plan, step), voxels_in_order(plan)
+    totals, hit = [], set()
+    for cell in cells_in_order(plan):
+        weights = [view.weight(voxel, cell) for voxel in voxels]
+        totals.append(sum(value * weight for value, weight in zip(values, weights)))
+        # Back as Reach: yes times any weight but 0 is yes.
+        hit.update(voxel for voxel, weight in zip(voxels, weights) if weight > 0)
+    return totals, hit
+
+
+def shadow(plan, values):
+    """The lines for a plan and the values of its voxels."""
+    seen = {step: seen_from(plan, values, step) for step in set(plan.steps)}
+    lines = [f"views {len(plan.steps)} rows {cells_along(plan.rows)}"
+             f" columns {cells_along(plan.columns)}"]
+    for v, step in enumerate(plan.steps):
+        for (m, k), total in zip(cells_in_order(plan), seen[step][0]):
+            lines.append(f"{v} {m} {k} {as_count(total)}")
+    hit = set().union(*(voxels for _, voxels in seen.values()))
+    lines.append(f"hit {len(hit)}")
+    return lines
+
+
+def answer(data: bytes) -> str:
+    """What `shadow` prints for an input."""
+    try:
+        plan, values = read_file(data[:LONGEST + 1])
+    except Refused as refusal:
+        return f"refused {refusal.number} at {refusal.place}\n"
+    return "".join(line + "\n" for line in shadow(plan, values))
+
+
+# ---------------------------------------------------------------------------
+# Part 2: making inputs
+# ---------------------------------------------------------------------------
+
+# A file to be is a list of eight lists of numbers, its sections.
+DISTANCES, X, Y, Z, COLUMNS, ROWS, STEPS, VALUES = range(8)
+NAMES = ("distances", "x", "y", "z", "columns", "rows", "steps", "values")
+AXES = (X, Y, Z, COLUMNS, ROWS)
+
+GREATEST, LEAST = 2**31 - 1, -2**31    # of the signed numbers
+HUGE = 2**32 - 1                       # the greatest count
+
+# The plan of both documents' examples.
+EXAMPLE = [[1000, 2000], [-100, 0, 100], [-100, 0, 100], [-50, 50],
+           [-200, 0, 200], [-100, 100], [0, 16], [1, 1, 1, 1]]
+
+# A plan with three uneven cells along each axis and three views, so that
+# every section has a first, a middle and a last number.
+BASE = [[1000, 2000], [-120, -50, 10, 100], [-90, -20, 40, 110], [-60, -10, 30, 70],
+        [-250, -60, 70, 260], [-140, -30, 50, 150], [3, 16, 40], list(range(-9, 18))]
+
+
+def unsigned(number):
+    """The four bytes of a count."""
+    return number.to_bytes(4, "little")
+
+
+def signed(number):
+    """The four bytes of any other number."""
+    return number.to_bytes(4, "little", signed=True)
+
+
+def packed(sections):
+    """The file of eight sections, or the front of a file where there are fewer."""
+    return b"".join(unsigned(len(section)) + b"".join(map(signed, section))
+                    for section in sections)
+
+
+def count_place(sections, section):
+    """The place of a section's count."""
+    return sum(4 + 4 * len(earlier) for earlier in sections[:section])
+
+
+def number_place(sections, section, i):
+    """The place of a section's number i."""
+    return count_place(sections, section) + 4 + 4 * i
+
+
+def replaced(sections, by):
+    """The sections with some of them replaced: `by` has the new ones by section."""
+    return [list(by.get(s, section)) for s, section in enumerate(sections)]
+
+
+def changed(sections, *changes):
+    """The sections with some numbers changed: each is (section, i, number)."""
+    result = [list(section) for section in sections]
+    for section, i, number in changes:
+        result[section][i] = number
+    return result
+
+
+def miscounted(sections, section, count):
+    """The file with one count changed and all else as it was."""
+    data, place = packed(sections), count_place(sections, section)
+    return data[:place] + unsigned(count) + data[place + 4:]
+
+
+def voxels_in(sections):
+    """The number of voxels of the sections' plan."""
+    return cells_along(sections[X]) * cells_along(sections[Y]) * cells_along(sections[Z])
+
+
+def filled(sections, by, value_at=lambda place: 1):
+    """The sections with some replaced, and a value for each voxel by its place."""
+    result = replaced(sections, by)
+    result[VALUES] = [value_at(place) for place in range(voxels_in(result))]
+    return result
+
+
+def around(cells, pitch=1):
+    """The edges of an even axis with 0 in its middle, or beside it."""
+    return [pitch * (i - cells // 2) for i in range(cells + 1)]
+
+
+# --- cases made by hand ----------------------------------------------------
+
+# A name, an input, and the first line that the answer has to have.
+Case = namedtuple("Case", "name data first_line")
+
+
+def refused(name, data, number, place):
+    """A case that is refused."""
+    return Case(name, data, f"refused {number} at {place}")
+
+
+def refused_at_count(name, sections, number, section):
+    """A case that is refused at a section's count."""
+    return refused(name, packed(sections), number, count_place(sections, section))
+
+
+def refused_at(name, sections, number, section, i):
+    """A case that is refused at a section's number i."""
+    return refused(name, packed(sections), number, number_place(sections, section, i))
+
+
+def accepted(name, sections):
+    """A case that is not refused."""
+    return Case(name, packed(sections),
+                f"views {len(sections[STEPS])} rows {cells_along(sections[ROWS])}"
+                f" columns {cells_along(sections[COLUMNS])}")
+
+
+def worked_cases():
+    """The worked example, and what the documents change in it."""
+    data = packed(EXAMPLE)
+    yield accepted("worked-example", EXAMPLE)
+    yield refused_at("worked-source-too-near", changed(EXAMPLE, (DISTANCES, 0, 200)),
+                     7, DISTANCES, 0)
+    yield accepted("worked-source-far-enough", changed(EXAMPLE, (DISTANCES, 0, 201)))
+    yield refused_at("worked-column-at-panel", changed(EXAMPLE, (COLUMNS, 2, 2000)),
+                     8, COLUMNS, 2)
+    yield accepted("worked-column-below-panel", changed(EXAMPLE, (COLUMNS, 2, 1999)))
+    yield refused_at("worked-step-sixty-four", changed(EXAMPLE, (STEPS, 1, 64)), 9, STEPS, 1)
+    yield refused("worked-without-last-byte", data[:-1], 1, 112)
+    yield refused("worked-with-a-byte-more", data + b"\x00", 3, 116)
+    yield accepted("worked-step-eight", replaced(EXAMPLE, {STEPS: [8]}))
+    yield accepted("worked-step-thirty-two", replaced(EXAMPLE, {STEPS: [32]}))
+
+
+def short_cases():
+    """Inputs of 0 to 4 bytes."""
+    yield refused("empty-input", b"", 1, 0)
+    yield refused("one-byte", b"\x02", 1, 0)
+    yield refused("two-bytes", b"\x02\x00", 1, 0)
+    yield refused("three-bytes", b"\x02\x00\x00", 1, 0)
+    yield refused("three-bytes-all-ones", b"\xff\xff\xff", 1, 0)
+    yield refused("four-bytes-right-count", b"\x02\x00\x00\x00", 1, 4)
+    yield refused("four-bytes-wrong-count", b"\xff\xff\xff\xff", 2, 0)
+    yield refused("four-bytes-high-byte-first", b"\x00\x00\x00\x02", 2, 0)
+
+
+def end_cases():
+    """Refusal 1: the bytes end in each section, at its first and last places."""
+    data = packed(BASE)
+    for section, name in enumerate(NAMES):
+        count = count_place(BASE, section)
+        first = number_place(BASE, section, 0)
+        last = number_place(BASE, section, len(BASE[section]) - 1)
+        yield refused(f"{name}-count-absent", data[:count], 1, count)
+        yield refused(f"{name}-count-of-three-bytes", data[:count + 3], 1, count)
+        yield refused(f"{name}-first-number-absent", data[:first], 1, first)
+        yield refused(f"{name}-first-number-of-three-bytes", data[:first + 3], 1, first)
+        yield refused(f"{name}-last-number-absent", data[:last], 1, last)
+        yield refused(f"{name}-last-number-of-three-bytes", data[:last + 3], 1, last)
+    for section in AXES:
+        yield refused(f"{NAMES[section]}-count-most-and-bytes-end",
+                      miscounted(BASE, section, MOST_EDGES), 1, len(data))
+    yield refused("steps-count-most-and-bytes-end",
+                  miscounted(BASE, STEPS, MOST_VIEWS), 1, len(data))
+    yield refused("steps-count-most-and-bytes-end-unevenly",
+                  miscounted(BASE, STEPS, MOST_VIEWS) + b"\x00\x00", 1, len(data))
+
+
+def distance_count_cases():
+    """Refusal 2 at the count of section 1."""
+    for word, numbers in (("none", []), ("one", [1000]), ("three", [1000, 2000, 3000])):
+        yield refused_at_count(f"distances-count-{word}", replaced(BASE, {DISTANCES: numbers}),
+                               2, DISTANCES)
+    for word, count in (("one-alone", 1), ("three-alone", 3), ("huge", HUGE),
+                        ("two-and-high-bit", 2**31 + 2)):
+        yield refused(f"distances-count-{word}", miscounted(BASE, DISTANCES, count), 2, 0)
+
+
+def axis_count_cases():
+    """Refusal 2 at the counts of sections 2 to 6, and their limits accepted."""
+    for section in AXES:
+        name, place = NAMES[section], count_place(BASE, section)
+        for word, numbers in (("none", []), ("one", [5]), ("above-most", around(513))):
+            yield refused_at_count(f"{name}-count-{word}", replaced(BASE, {section: numbers}),
+                                   2, section)
+        for word, count in (("above-most-alone", 514), ("half-of-all", 2**31), ("huge", HUGE)):
+            yield refused(f"{name}-count-{word}", miscounted(BASE, section, count), 2, place)
+        yield accepted(f"{name}-two-edges", filled(BASE, {section: [-40, 60]}))
+        small = {X: [-60, 60], Y: [-60, 60], Z: [-60, 60], COLUMNS: [-150, 150],
+                 ROWS: [-150, 150], STEPS: [21]}
+        yield accepted(f"{name}-most-edges", filled(BASE, {**small, section: around(512)}))
+    fallen = changed(BASE, (X, 1, -500), (X, 2, MOST_EDGE + 1))
+    yield refused("x-count-wrong-and-faults-after-it", miscounted(fallen, X, 514),
+                  2, count_place(BASE, X))
+
+
+def step_count_cases():
+    """Refusal 2 at the count of section 7."""
+    place = count_place(BASE, STEPS)
+    yield refused_at_count("steps-count-above-most", replaced(BASE, {STEPS: [16] * 1025}),
+                           2, STEPS)
+    yield refused_at_count("steps-count-above-most-and-wrong-steps",
+                           replaced(BASE, {STEPS: [64] * 1025}), 2, STEPS)
+    for word, count in (("above-most-alone", 1025), ("half-of-all", 2**31), ("huge", HUGE)):
+        yield refused(f"steps-count-{word}", miscounted(BASE, STEPS, count), 2, place)
+
+
+def value_count_cases():
+    """Refusal 2 at the count of section 8."""
+    place = count_place(BASE, VALUES)
+    for word, values in (("none", []), ("one-fewer", [1] * 26), ("one-more", [1] * 28)):
+        yield refused_at_count(f"values-count-{word}", replaced(BASE, {VALUES: values}),
+                               2, VALUES)
+    for word, count in (("none-alone", 0), ("one-fewer-alone", 26), ("one-more-alone", 28),
+                        ("high-bit", 2**31 + 27), ("huge", HUGE)):
+        yield refused(f"values-count-{word}", miscounted(BASE, VALUES, count), 2, place)
+
+
+def rest_cases():
+    """Refusal 3: bytes follow section 8."""
+    data = packed(BASE)
+    unseen = packed(replaced(BASE, {STEPS: []}))
+    for word, rest in (("one-byte", b"\xff"), ("three-bytes", b"\x00\x00\x00"),
+                       ("four-bytes", signed(1)), ("many-bytes", bytes(range(250)) * 4),
+                       ("the-file-again", data), ("more-than-is-read", bytes(31_000))):
+        yield refused(f"rest-of-{word}", data + rest, 3, len(data))
+    yield refused("rest-of-one-byte-and-no-views", unseen + b"\x00", 3, len(unseen))
+
+
+def source_cases():
+    """Refusal 6 for D, and the values of D that are accepted."""
+    for word, source in (("zero", 0), ("minus-one", -1), ("above-most", MOST_SOURCE + 1),
+                         ("least", LEAST), ("greatest", GREATEST)):
+        yield refused_at(f"source-{word}", changed(BASE, (DISTANCES, 0, source)),
+                         6, DISTANCES, 0)
+    for word, panel in (("panel-below-it", MOST_SOURCE - 1), ("panel-above-most", MOST_PANEL + 1)):
+        yield refused_at(f"source-most-and-{word}",
+                         replaced(BASE, {DISTANCES: [MOST_SOURCE, panel]}), 6, DISTANCES, 1)
+    for word, panel in (("the-same", MOST_SOURCE), ("most", MOST_PANEL)):
+        yield accepted(f"source-most-and-panel-{word}",
+                       replaced(BASE, {DISTANCES: [MOST_SOURCE, panel]}))
+    yield refused_at("source-one-is-too-near", changed(BASE, (DISTANCES, 0, 1)), 7, DISTANCES, 0)
+    yield refused_at_count("source-one-and-x-count-wrong",
+                           replaced(BASE, {DISTANCES: [1, 1], X: [0]}), 2, X)
+    unit = {X: [0, 1], Y: [-1, 0], Z: [-1, 0, 1], COLUMNS: [-1, 0, 1], ROWS: [-2, 0, 2]}
+    yield refused_at("source-two-is-too-near", filled(BASE, {**unit, DISTANCES: [2, 5]}),
+                     7, DISTANCES, 0)
+    yield accepted("source-three-is-far-enough", filled(BASE, {**unit, DISTANCES: [3, 5]}))
+    yield refused_at("source-three-and-column-at-panel",
+                     filled(BASE, {**unit, DISTANCES: [3, 3], COLUMNS: [-2, 3]}), 8, COLUMNS, 1)
+
+
+def panel_cases():
+    """Refusal 6 for F, and the values of F that are accepted."""
+    for word, panel in (("below-source", 999), ("zero", 0), ("minus-one", -1),
+                        ("above-most", MOST_PANEL + 1), ("least", LEAST), ("greatest", GREATEST)):
+        yield refused_at(f"panel-{word}", changed(BASE, (DISTANCES, 1, panel)), 6, DISTANCES, 1)
+    yield accepted("panel-at-source", changed(BASE, (DISTANCES, 1, 1000)))
+    wide = [-4_000_000, -1_000_000, 900_000, 3_000_000]
+    yield accepted("panel-most",
+                   replaced(BASE, {DISTANCES: [1000, MOST_PANEL], COLUMNS: wide, ROWS: wide}))
+    for word, pair in (("low", [0, -1]), ("high", [MOST_SOURCE + 1, MOST_PANEL + 1]),
+                       ("crossed", [MOST_PANEL + 1, 0])):
+        yield refused_at(f"source-and-panel-wrong-{word}", replaced(BASE, {DISTANCES: pair}),
+                         6, DISTANCES, 0)
+    wrong = packed(changed(BASE, (DISTANCES, 0, 0)))
+    yield refused("source-wrong-and-panel-absent", wrong[:8], 1, 8)
+    yield refused("source-wrong-and-nothing-more", wrong[:12], 6, 4)
+    wrong = packed(changed(BASE, (DISTANCES, 1, 999)))
+    yield refused("panel-wrong-and-nothing-more", wrong[:12], 6, 8)
+
+
+def range_cases():
+    """Refusal 5 along each axis, at its first and its last edge."""
+    for section in AXES:
+        name, last = NAMES[section], len(BASE[section]) - 1
+        for where, i in (("first", 0), ("last", last)):
+            for word, edge in (("above-range", MOST_EDGE + 1), ("below-range", -MOST_EDGE - 1)):
+                yield refused_at(f"{name}-{where}-edge-{word}",
+                                 changed(BASE, (section, i, edge)), 5, section, i)
+        yield refused_at(f"{name}-first-edge-least", changed(BASE, (section, 0, LEAST)),
+                         5, section, 0)
+        yield refused_at(f"{name}-last-edge-greatest", changed(BASE, (section, last, GREATEST)),
+                         5, section, last)
+        yield refused_at(f"{name}-two-edges-out-of-range",
+                         changed(BASE, (section, 1, LEAST), (section, last, GREATEST)),
+                         5, section, 1)
+
+
+def range_limit_cases():
+    """The outermost edges that are accepted, along each axis."""
+    ends = (("first", 0, -MOST_EDGE), ("last", -1, MOST_EDGE))
+    for where, i, edge in ends:
+        for section in AXES:
+            far = changed(BASE, (DISTANCES, 0, MOST_SOURCE), (DISTANCES, 1, MOST_PANEL))
+            start = BASE if section in (Z, ROWS) else far
+            yield accepted(f"{NAMES[section]}-{where}-edge-at-limit",
+                           changed(start, (section, i, edge)))
+        for section in (X, Y):
+            yield refused_at(f"{NAMES[section]}-{where}-edge-at-limit-and-source-near",
+                             changed(BASE, (section, i, edge)), 7, DISTANCES, 0)
+    yield refused_at("columns-first-edge-at-limit-and-panel-near",
+                     changed(BASE, (COLUMNS, 0, -MOST_EDGE)), 8, COLUMNS, 0)
+    yield refused_at("columns-last-edge-at-limit-and-panel-near",
+                     changed(BASE, (COLUMNS, 3, MOST_EDGE)), 8, COLUMNS, 3)
+
+
+def rise_cases():
+    """Refusal 4 along each axis, at its edge 1 and at its last edge."""
+    for section in AXES:
+        name, edges = NAMES[section], BASE[section]
+        last = len(edges) - 1
+        for where, i in (("second", 1), ("last", last)):
+            for word, edge in (("equal", edges[i - 1]), ("falling", edges[i - 1] - 1)):
+                yield refused_at(f"{name}-{where}-edge-{word}",
+                                 changed(BASE, (section, i, edge)), 4, section, i)
+        yield refused_at(f"{name}-two-edges-not-rising",
+                         replaced(BASE, {section: [0, -3, -2, -2]}), 4, section, 1)
+        yield refused_at(f"{name}-edge-not-rising-before-one-out-of-range",
+                         changed(BASE, (section, 1, edges[0]), (section, last, MOST_EDGE + 1)),
+                         5, section, last)
+        yield refused_at(f"{name}-of-two-edges-equal", replaced(BASE, {section: [7, 7]}),
+                         4, section, 1)
+
+
+def near_cases():
+    """Refusal 7: D against twice the greatest |edge| of x and y."""
+    for section, where, i, edge in ((X, "first", 0, -300), (X, "last", -1, 300),
+                                    (Y, "first", 0, -300), (Y, "last", -1, 300)):
+        name = f"source-by-{NAMES[section]}-{where}-edge"
+        start = changed(BASE, (section, i, edge))
+        yield refused_at(f"{name}-too-near", changed(start, (DISTANCES, 0, 600)), 7, DISTANCES, 0)
+        yield accepted(f"{name}-far-enough", changed(start, (DISTANCES, 0, 601)))
+    wide = changed(BASE, (X, -1, 200), (Y, -1, 300), (DISTANCES, 0, 500))
+    yield refused_at("source-between-x-and-y", wide, 7, DISTANCES, 0)
+    yield refused_at("source-too-near-and-column-beyond", changed(wide, (COLUMNS, 3, 2000)),
+                     7, DISTANCES, 0)
+    yield refused_at("source-too-near-and-step-wrong", changed(wide, (STEPS, 0, 64)),
+                     7, DISTANCES, 0)
+    yield accepted("source-near-by-z-only", changed(BASE, (Z, 0, -5000), (Z, 3, 5000)))
+    yield accepted("source-near-by-columns-only",
+                   changed(BASE, (COLUMNS, 0, -1500), (COLUMNS, 3, 1500)))
+
+
+def beyond_cases():
+    """Refusal 8: column edges against F."""
+    for where, i, sign in (("first", 0, -1), ("last", 3, 1)):
+        yield refused_at(f"columns-{where}-edge-at-panel",
+                         changed(BASE, (COLUMNS, i, sign * 2000)), 8, COLUMNS, i)
+        yield refused_at(f"columns-{where}-edge-past-panel",
+                         changed(BASE, (COLUMNS, i, sign * 2001)), 8, COLUMNS, i)
+        yield accepted(f"columns-{where}-edge-below-panel",
+                       changed(BASE, (COLUMNS, i, sign * 1999)))
+    for word, edges, i in (("both-ends", [-2000, -60, 70, 2000], 0),
+                           ("last-three", [-1999, 2000, 2001, 2002], 1),
+                           ("all-high", [2000, 2001, 2002, 2003], 0),
+                           ("all-low", [-2003, -2002, -2001, -2000], 0)):
+        yield refused_at(f"columns-beyond-{word}", replaced(BASE, {COLUMNS: edges}),
+                         8, COLUMNS, i)
+    yield accepted("columns-all-but-at-panel",
+                   replaced(BASE, {COLUMNS: [-1999, -1998, 1998, 1999]}))
+    yield accepted("rows-beyond-panel", changed(BASE, (ROWS, 0, -2000), (ROWS, 3, 2001)))
+
+
+def step_cases():
+    """Refusal 9 at the first, a middle and the last step."""
+    wrong = (("minus-one", -1), ("sixty-four", 64), ("two-hundred-fifty-six", 256),
+             ("greatest", GREATEST), ("least", LEAST))
+    for where, i in (("first", 0), ("middle", 1), ("last", 2)):
+        for word, step in wrong:
+            yield refused_at(f"steps-{where}-{word}", changed(BASE, (STEPS, i, step)), 9, STEPS, i)
+        yield accepted(f"steps-{where}-sixty-three", changed(BASE, (STEPS, i, 63)))
+    yield refused_at("steps-all-wrong", replaced(BASE, {STEPS: [64, -1, 65]}), 9, STEPS, 0)
+    yield refused_at("steps-last-two-wrong", replaced(BASE, {STEPS: [0, -1, 64]}), 9, STEPS, 1)
+    yield refused_at("steps-only-one-wrong", replaced(BASE, {STEPS: [64]}), 9, STEPS, 0)
+    yield refused_at("steps-last-of-most-wrong", replaced(BASE, {STEPS: [0] * 1023 + [64]}),
+                     9, STEPS, 1023)
+
+
+def much_voxel_cases():
+    """Refusal 10 for the number of voxels."""
+    unit = {X: [-20, 20], Y: [-20, 20], Z: [-20, 20], COLUMNS: [-200, 0, 200],
+            ROWS: [-200, 0, 200], STEPS: [5]}
+    yield accepted("voxels-most-as-cube",
+                   filled(BASE, {**unit, X: around(16, 9), Y: around(16, 10), Z: around(16, 11)},
+                          lambda place: place % 7 - 3))
+    yield accepted("voxels-most-as-plate",
+                   filled(BASE, {**unit, Y: around(8, 50), X: around(512)}, lambda place: place))
+    yield accepted("voxels-most-and-no-views",
+                   filled(BASE, {**unit, Z: around(512, 50), Y: around(8), STEPS: []}))
+    wide, high = around(17, 9), around(241)
+    yield refused_at_count("voxels-one-too-many",
+                           filled(BASE, {**unit, X: wide, Y: high}), 10, VALUES)
+    for word, by in (("x-and-y", {X: high, Y: wide}), ("x-and-z", {X: wide, Z: high}),
+                     ("y-and-z", {Y: wide, Z: high}),
+                     ("all-three", {X: around(17), Y: around(17), Z: around(15)}),
+                     ("no-views", {X: wide, Z: high, STEPS: []}),
+                     ("most-of-all", {X: around(512), Y: around(512), Z: around(512)})):
+        sections = replaced(BASE, {**unit, **by})[:VALUES]
+        yield refused_at_count(f"voxels-too-many-by-{word}", sections, 10, VALUES)
+    sections = replaced(BASE, {**unit, X: wide, Y: high, VALUES: [1, 2, 3]})
+    yield refused_at_count("voxels-too-many-before-values-count", sections, 10, VALUES)
+    data = packed(sections)
+    place = count_place(sections, VALUES)
+    yield refused("voxels-too-many-and-values-count-cut", data[:place + 3], 10, place)
+    yield refused("voxels-too-many-and-steps-count-absent", data[:place - 8], 1, place - 8)
+
+
+def much_cell_cases():
+    """Refusal 10 for the number of cells over all views."""
+    block = {X: [-50, 0, 60], Y: [-70, 80], Z: [-40, 50]}
+    many = [q * 5 % 64 for q in range(1024)]
+    yield accepted("cells-most-by-most-views",
+                   filled(BASE, {**block, COLUMNS: [-150, 0, 100], ROWS: [-70, 0, 90],
+                                 STEPS: many}))
+    yield accepted("cells-most-by-one-view",
+                   filled(BASE, {**block, COLUMNS: around(64, 3), ROWS: around(64, 2),
+                                 STEPS: [61]}))
+    wide, high = around(17, 10), around(241)
+    pair = [-70, 90]
+    for word, by in (("most-views", {COLUMNS: around(5, 50), ROWS: pair, STEPS: many}),
+                     ("most-views-of-five-rows", {COLUMNS: pair, ROWS: around(5), STEPS: many}),
+                     ("one-view", {COLUMNS: wide, ROWS: high, STEPS: [0]}),
+                     ("two-views", {COLUMNS: around(64), ROWS: around(64), STEPS: [0, 16]}),
+                     ("a-view-more", {COLUMNS: around(8), ROWS: around(8), STEPS: [9] * 65}),
+                     ("most-of-all", {COLUMNS: around(512), ROWS: around(512), STEPS: many})):
+        sections = filled(BASE, {**block, **by})
+        yield refused_at_count(f"cells-too-many-by-{word}", sections, 10, VALUES)
+    sections = replaced(BASE, {COLUMNS: wide, ROWS: high})
+    place = count_place(sections, VALUES)
+    yield refused("cells-too-many-and-values-absent", packed(sections)[:place], 10, place)
+    yield refused("cells-too-many-before-values-count", miscounted(sections, VALUES, 28),
+                  10, place)
+    yield refused("cells-too-many-and-a-byte-more", packed(sections) + b"\x00", 10, place)
+    yield refused_at("cells-too-many-and-step-wrong", changed(sections, (STEPS, 2, 64)),
+                     9, STEPS, 2)
+    both = replaced(sections, {X: wide, Y: high})[:VALUES]
+    yield refused_at_count("cells-and-voxels-too-many", both, 10, VALUES)
+
+
+def longest_cases():
+    """The longest file that is accepted, and a byte more."""
+    longest = filled(BASE, {X: around(512), Y: around(8, 20), Z: [-60, 60], COLUMNS: [-150, 150],
+                            ROWS: around(4, 40), STEPS: [21] * MOST_VIEWS},
+                     lambda place: place % 7 - 3)
+    data = packed(longest)
+    expect("length of the longest file", len(data), LONGEST)
+    yield accepted("longest-file", longest)
+    yield refused("longest-file-and-a-byte-more", data + b"\xff", 3, LONGEST)
+
+
+def order_cases():
+    """Two faults in different sections: the earlier section's is told."""
+    yield refused("panel-wrong-and-x-count-huge",
+                  miscounted(changed(BASE, (DISTANCES, 1, 999)), X, HUGE), 6, 8)
+    yield refused_at("x-falling-and-y-out-of-range",
+                     changed(BASE, (X, 3, -500), (Y, 0, LEAST)), 4, X, 3)
+    yield refused_at("x-out-of-range-and-source-near",
+                     changed(BASE, (X, 3, GREATEST), (DISTANCES, 0, 3)), 5, X, 3)
+    yield refused("y-falling-and-z-count-wrong",
+                  miscounted(changed(BASE, (Y, 1, -90)), Z, 1), 4, number_place(BASE, Y, 1))
+    yield refused("z-count-wrong-and-columns-falling",
+                  miscounted(changed(BASE, (COLUMNS, 1, -300)), Z, 1), 2, count_place(BASE, Z))
+    yield refused_at("columns-falling-and-columns-beyond",
+                     changed(BASE, (COLUMNS, 0, -2000), (COLUMNS, 3, 0)), 4, COLUMNS, 3)
+    yield refused_at("rows-equal-and-columns-beyond",
+                     changed(BASE, (ROWS, 1, -140), (COLUMNS, 0, -2000)), 4, ROWS, 1)
+    yield refused_at("rows-out-of-range-and-source-near",
+                     changed(BASE, (ROWS, 0, LEAST), (DISTANCES, 0, 240)), 5, ROWS, 0)
+    beyond = changed(BASE, (COLUMNS, 3, 2000))
+    near = changed(beyond, (DISTANCES, 0, 240))
+    rows, steps = count_place(BASE, ROWS), count_place(BASE, STEPS)
+    yield refused("source-near-and-rows-absent", packed(near)[:rows], 1, rows)
+    yield refused("source-near-and-steps-absent", packed(near)[:steps], 7, 4)
+    yield refused("columns-beyond-and-rows-count-cut", packed(beyond)[:rows + 2], 1, rows)
+    yield refused("columns-beyond-and-steps-absent", packed(beyond)[:steps],
+                  8, number_place(BASE, COLUMNS, 3))
+    yield refused_at("columns-beyond-and-step-wrong", changed(beyond, (STEPS, 0, -1)),
+                     8, COLUMNS, 3)
+    wrong = changed(BASE, (STEPS, 1, 64))
+    data, step = packed(wrong), number_place(BASE, STEPS, 1)
+    yield refused("step-wrong-and-last-step-cut", data[:step + 7], 1, step + 4)
+    yield refused("step-wrong-and-values-absent", data[:step + 8], 9, step)
+    yield refused("step-wrong-and-values-count-wrong", miscounted(wrong, VALUES, 26), 9, step)
+    yield refused("step-wrong-and-a-byte-more", data + b"\x00", 9, step)
+    yield refused("values-count-wrong-and-a-byte-more",
+                  miscounted(BASE, VALUES, 28) + b"\x00", 2, count_place(BASE, VALUES))
+
+
+def no_view_cases():
+    """Plans of no views."""
+    unseen = replaced(BASE, {STEPS: []})
+    place = count_place(unseen, VALUES)
+    yield accepted("no-views", unseen)
+    yield refused("no-views-and-values-absent", packed(unseen)[:place], 1, place)
+    yield refused("no-views-and-values-count-wrong", miscounted(unseen, VALUES, 0), 2, place)
+    yield accepted("no-views-and-largest-panel",
+                   replaced(EXAMPLE, {COLUMNS: around(512, 3), ROWS: around(512, 3), STEPS: []}))
+    yield accepted("no-views-and-panel-of-one-cell",
+                   replaced(EXAMPLE, {COLUMNS: [-5, 5], ROWS: [-5, 5], STEPS: []}))
+
+
+def view_cases():
+    """Views: many, the same, every step, and those with a negative."""
+    block = {X: [-90, -20, 70], Y: [-50, 10, 100], Z: [-30, 40]}
+    yield accepted("views-most",
+                   filled(BASE, {X: [-9, 70], Y: [-50, 20], Z: [-3, 40], COLUMNS: [-160, 90],
+                                 ROWS: [-30, 50], STEPS: [q * 7 % 64 for q in range(1024)]}))
+    yield accepted("steps-every-one",
+                   filled(BASE, {**block, COLUMNS: [-130, 20, 170], ROWS: [-60, 5, 50],
+                                 STEPS: range(64)}, lambda place: place + 1))
+    yield accepted("steps-every-one-backwards",
+                   filled(BASE, {**block, COLUMNS: [-130, 20, 170], ROWS: [-60, 50],
+                                 STEPS: range(63, -1, -1)}, lambda place: 5 - 3 * place))
+    yield accepted("steps-the-same-twice", replaced(BASE, {STEPS: [13, 13]}))
+    yield accepted("steps-the-same-apart", replaced(BASE, {STEPS: [50, 7, 50]}))
+    yield accepted("steps-of-negative-a", replaced(BASE, {STEPS: [24, 32, 40, 48, 30, 60]}))
+    yield accepted("steps-of-quarter-turns", replaced(BASE, {STEPS: [0, 16, 32, 48]}))
+    yield accepted("steps-of-ties", replaced(BASE, {STEPS: [8, 24, 40, 56]}))
+    yield accepted("steps-beside-ties", replaced(BASE, {STEPS: [7, 9, 23, 25, 39, 41, 55, 57]}))
+
+
+def axis_cases():
+    """Axes and panels of many shapes."""
+    yield accepted("base-plan", BASE)
+    yield accepted("one-voxel-and-one-cell",
+                   filled(BASE, {X: [3, 40], Y: [-50, -1], Z: [-9, 2], COLUMNS: [-90, 100],
+                                 ROWS: [-60, 40], STEPS: [18]}))
+    yield accepted("uneven-axes",
+                   filled(BASE, {X: [-150, -149, 0, 2, 90], Y: [-7, 100, 101, 170],
+                                 Z: [-90, -2, 0, 1, 60], COLUMNS: [-300, -299, -20, 0, 1, 310],
+                                 ROWS: [-200, -1, 0, 3, 190], STEPS: [0, 6, 20, 37, 59]},
+                          lambda place: place * place - 40))
+    yield accepted("axes-to-one-side",
+                   filled(BASE, {X: [20, 60, 130], Y: [30, 90, 100], Z: [5, 60, 61],
+                                 COLUMNS: [10, 90, 240], ROWS: [2, 50, 150],
+                                 STEPS: [0, 12, 28, 45, 62]}, lambda place: 1 - place))
+    yield accepted("panel-sees-some-voxels", replaced(BASE, {COLUMNS: [50, 90], ROWS: [20, 60]}))
+    yield accepted("panel-sees-no-voxel",
+                   replaced(BASE, {COLUMNS: [1500, 1600], ROWS: [900, 950]}))
+    yield accepted("panel-wider-than-all-shadows",
+                   replaced(BASE, {COLUMNS: [-900, 900], ROWS: [-800, 800]}))
+    yield accepted("cells-thinner-than-a-unit",
+                   replaced(BASE, {DISTANCES: [1000, 9000], COLUMNS: around(9, 2),
+                                   ROWS: around(9, 3)}))
+    yield accepted("voxels-of-one-unit",
+                   filled(BASE, {X: around(4), Y: around(3), Z: around(2), COLUMNS: around(3, 2),
+                                 ROWS: around(3, 2), DISTANCES: [5, 11], STEPS: [0, 10, 35]}))
+    # Thin cells at both ends: the slabs nearest to the source and farthest from it.
+    ends = [-MOST_EDGE, 1 - MOST_EDGE, 5, MOST_EDGE - 1, MOST_EDGE]
+    far = {DISTANCES: [2 * MOST_EDGE + 1, 2 * MOST_EDGE + 1], X: ends, Y: ends,
+           Z: [-MOST_EDGE, 0, MOST_EDGE], COLUMNS: ends, ROWS: [-MOST_EDGE, 2, MOST_EDGE],
+           STEPS: [0, 8, 24, 40, 47, 56, 63]}
+    yield accepted("edges-widest-and-source-nearest", filled(BASE, far))
+    yield accepted("edges-widest-and-source-farthest",
+                   filled(BASE, {**far, DISTANCES: [MOST_SOURCE, MOST_PANEL]}))
+    yield accepted("edges-widest-and-values-that-wrap",
+                   filled(BASE, far, lambda place: (GREATEST, LEAST, -1, 7)[place % 4]))
+
+
+def value_cases():
+    """Values, their order and their range."""
+    cube = {X: [-90, 0, 90], Y: [-90, 0, 90], Z: [-60, 0, 60], COLUMNS: [-220, 0, 220],
+            ROWS: [-150, 0, 150], STEPS: [0, 16]}
+    yield accepted("values-in-order", filled(BASE, cube, lambda place: 10**place))
+    for word, lit in (("first", 0), ("next-along-x", 1), ("next-along-y", 2), ("next-along-z", 4)):
+        yield accepted(f"values-only-{word}", filled(BASE, cube, lambda place: int(place == lit)))
+    long = {**cube, X: [-90, -30, 10, 60, 90], Y: [-90, 20, 90], Z: [-60, -20, 10, 60]}
+    yield accepted("values-in-order-of-unlike-axes", filled(BASE, long, lambda place: place**3))
+    for word, value in (("zero", 0), ("minus-one", -1), ("greatest", GREATEST), ("least", LEAST)):
+        yield accepted(f"values-all-{word}", filled(BASE, cube, lambda place: value))
+    yield accepted("values-of-both-signs",
+                   filled(BASE, cube, lambda place: (GREATEST, LEAST, -1, 1)[place % 4]))
+    yield accepted("values-of-high-bytes",
+                   filled(BASE, cube, lambda place: (-1)**place * 0x7A3B5C00 // 2**place))
+
+
+GROUPS = (worked_cases, short_cases, end_cases, distance_count_cases, axis_count_cases,
+          step_count_cases, value_count_cases, rest_cases, source_cases, panel_cases,
+          range_cases, range_limit_cases, rise_cases, near_cases, beyond_cases, step_cases,
+          much_voxel_cases, much_cell_cases, longest_cases, order_cases, no_view_cases, view_cases,
+          axis_cases, value_cases)
+
+
+# --- inputs made by chance -------------------------------------------------
+
+SEED = 20261127
+RANDOM_FILES = 402
+
+# Numbers at or beside a limit.
+EXTREMES = (0, 1, 2, -1, 63, 64, 256, 513, 514, 1024, 1025, MOST_EDGE, MOST_EDGE + 1, -MOST_EDGE,
+            -MOST_EDGE - 1, MOST_SOURCE, MOST_SOURCE + 1, MOST_PANEL, MOST_PANEL + 1,
+            GREATEST, LEAST)
+
+
+def rising(rng, half):
+    """The edges of 1 to 5 cells, from -half to half, mostly on both sides of 0."""
+    cells = rng.randrange(1, 6)
+    edges = set()
+    if rng.randrange(5) > 0:
+        edges = {rng.randrange(-half, 0), rng.randrange(1, half + 1)}
+    while len(edges) <= cells:
+        edges.add(rng.randrange(-half, half + 1))
+    return sorted(edges)
+
+
+def random_values(rng, number):
+    """Values of one of four ranges."""
+    low, high = rng.choice(((1, 1), (-1, 1), (-1000, 1000), (LEAST, GREATEST)))
+    return [rng.randrange(low, high + 1) for _ in range(number)]
+
+
+def random_sections(rng):
+    """A file that is not refused, with a panel about as wide as the shadows."""
+    half = min(MOST_EDGE, 16 + rng.randrange(1 << rng.randrange(5, 24)))
+    x, y, z = rising(rng, half), rising(rng, half), rising(rng, half)
+    widest = max(abs(edge) for edge in x + y)
+    nearest = max(20, 2 * widest + 1)
+    source = rng.randrange(nearest, min(MOST_SOURCE, 4 * nearest) + 1)
+    panel = rng.randrange(source, min(MOST_PANEL, 3 * source) + 1)
+    shade = min(MOST_EDGE, half * panel // source)
+    columns, rows = rising(rng, min(panel - 1, shade)), rising(rng, shade)
+    steps = [rng.randrange(MOST_STEP + 1) for _ in range(rng.randrange(5))]
+    sections = [[source, panel], x, y, z, columns, rows, steps, []]
+    sections[VALUES] = random_values(rng, voxels_in(sections))
+    return sections
+
+
+def sections_of(data):
+    """The places of the counts that data has, each with its number of whole numbers."""
+    found, at = [], 0
+    while len(found) < 8 and at + 4 <= len(data):
+        count = int.from_bytes(data[at:at + 4], "little")
+        found.append((at, min(count, (len(data) - at - 4) // 4)))
+        at += 4 + 4 * count
+    return found
+
+
+def some_place(rng, data):
+    """The place of a number, each section as likely as any other."""
+    count_at, numbers = rng.choice(sections_of(data))
+    return count_at + 4 * rng.randrange(numbers + 1)
+
+
+def number_replaced(rng, data):
+    """A number replaced by a random one or one beside a limit."""
+    place = some_place(rng, data)
+    number = rng.choice((rng.choice(EXTREMES), rng.randrange(LEAST, GREATEST + 1)))
+    return data[:place] + signed(number) + data[place + 4:]
+
+
+def number_altered(rng, data):
+    """A number replaced by one beside it, its double, its half or its negative."""
+    place = some_place(rng, data)
+    number = int.from_bytes(data[place:place + 4], "little", signed=True)
+    number = rng.choice((number - 1, number + 1, number * 2, number // 2, -number))
+    return data[:place] + unsigned(number % 2**32) + data[place + 4:]
+
+
+def distance_lowered(rng, data):
+    """D or F replaced by a number below it."""
+    place = rng.choice((4, 8))
+    number = int.from_bytes(data[place:place + 4], "little")
+    return data[:place] + unsigned(rng.randrange(max(number, 1))) + data[place + 4:]
+
+
+def count_changed(rng, data):
+    """A count changed by one, or replaced by one beside a limit."""
+    place, _ = rng.choice(sections_of(data))
+    count = int.from_bytes(data[place:place + 4], "little")
+    count = rng.choice((count - 1, count + 1, rng.choice(EXTREMES))) % 2**32
+    return data[:place] + unsigned(count) + data[place + 4:]
+
+
+def number_inserted(rng, data):
+    """Four bytes inserted: a number said twice, or a small one."""
+    place = some_place(rng, data)
+    number = rng.choice((data[place:place + 4], signed(rng.randrange(-9, 10))))
+    return data[:place] + number + data[place:]
+
+
+def number_removed(rng, data):
+    """Four bytes removed."""
+    place = some_place(rng, data)
+    return data[:place] + data[place + 4:]
+
+
+def bit_flipped(rng, data):
+    """One bit changed."""
+    place = some_place(rng, data) + rng.randrange(4)
+    return data[:place] + bytes([data[place] ^ 1 << rng.randrange(8)]) + data[place + 1:]
+
+
+def bytes_appended(rng, data):
+    """One to twelve bytes appended."""
+    return data + bytes(rng.randrange(256) for _ in range(rng.randrange(1, 13)))
+
+
+DAMAGES = (number_replaced, number_altered, number_altered, distance_lowered, count_changed,
+           number_inserted, number_removed, bit_flipped, bit_flipped, bytes_appended)
+
+
+def whole(rng):
+    """A file that is not refused."""
+    return packed(random_sections(rng))
+
+
+def cut(rng):
+    """A file cut at a random byte."""
+    data = whole(rng)
+    return data[:rng.randrange(len(data))]
+
+
+def damaged(rng):
+    """A file damaged once or twice."""
+    data = whole(rng)
+    for _ in range(rng.randrange(1, 3)):
+        data = rng.choice(DAMAGES)(rng, data)
+    return data
+
+
+def random_files():
+    """The names and bytes of all inputs made by chance: whole, cut and damaged in turn."""
+    rng = random.Random(SEED)
+    for i in range(RANDOM_FILES):
+        yield f"random-{i:03}.plan", (whole, cut, damaged)[i % 3](rng)
+
+
+# --- checks of this program ------------------------------------------------
+
+EXAMPLE_FILE = bytes.fromhex("""
+    02 00 00 00  E8 03 00 00  D0 07 00 00
+    03 00 00 00  9C FF FF FF  00 00 00 00  64 00 00 00
+    03 00 00 00  9C FF FF FF  00 00 00 00  64 00 00 00
+    02 00 00 00  CE FF FF FF  32 00 00 00
+    03 00 00 00  38 FF FF FF  00 00 00 00  C8 00 00 00
+    02 00 00 00  9C FF FF FF  64 00 00 00
+    02 00 00 00  00 00 00 00  10 00 00 00
+    04 00 00 00  01 00 00 00  01 00 00 00  01 00 00 00  01 00 00 00
+""")
+
+EXAMPLE_ANSWER = """\
+views 2 rows 1 columns 2
+0 0 0 19120
+0 0 1 19025
+1 0 0 19120
+1 0 1 19025
+hit 4
+"""
+
+
+def expect(what, found, wanted):
+    """Ends with an error where a figure is not the one wanted."""
+    if found != wanted:
+        sys.exit(f"check failed: {what}: found {found!r}, wanted {wanted!r}")
+
+
+def check_example():
+    """The example of PLAN-FILES.md, and the five refusals named after it."""
+    expect("length of the example", len(EXAMPLE_FILE), 116)
+    expect("bytes of the example", packed(EXAMPLE), EXAMPLE_FILE)
+    expect("place of section 8", count_place(EXAMPLE, VALUES), 96)
+    expect("the example", answer(EXAMPLE_FILE), EXAMPLE_ANSWER)
+    for what, data, wanted in (
+            ("D 200", packed(changed(EXAMPLE, (DISTANCES, 0, 200))), "refused 7 at 4\n"),
+            ("column edge 2,000", packed(changed(EXAMPLE, (COLUMNS, 2, 2000))),
+             "refused 8 at 68\n"),
+            ("step 64", packed(changed(EXAMPLE, (STEPS, 1, 64))), "refused 9 at 92\n"),
+            ("without the last byte", EXAMPLE_FILE[:-1], "refused 1 at 112\n"),
+            ("a byte more", EXAMPLE_FILE + b"\x00", "refused 3 at 116\n")):
+        expect(what, answer(data), wanted)
+
+
+def check_figures():
+    """The worked figures of SPECIFICATION.md that are landed edges or weights."""
+    plan, _ = read_file(EXAMPLE_FILE)
+    ahead, tie, behind = View(plan, 0), View(plan, 8), View(plan, 32)
+    expect("U and W of slab 0 to 100", (ahead.u[1], ahead.w[1]),
+           ([(-106, 0), (0, 105)], [(-53, 52)]))
+    expect("U and W of slab -100 to 0", (ahead.u[0], ahead.w[0]),
+           ([(-96, 0), (0, 95)], [(-48, 47)]))
+    expect("step 0, back from ones",
+           [sum(ahead.weight(voxel, cell) for cell in cells_in_order(plan))
+            for voxel in voxels_in_order(plan)], [9120, 9025, 10000, 10000])
+    expect("step 8, slab 0 to 100",
+           [tie.weight((i, 1, 0), (0, k)) for i in range(2) for k in range(2)],
+           [5130, 5565, 0, 10920])
+    expect("S of step 32", behind.s, [(100, 0), (0, -100)])
+    expect("step 32, voxel (0, 0) on column 1", behind.weight((0, 0, 0), (0, 1)), 10000)
+
+
+def check_limits():
+    """The limits that SPECIFICATION.md names with its worked figures."""
+    for what, change, wanted in (
+            ("D 201", (DISTANCES, 0, 201), "views"),
+            ("column edge 1,999", (COLUMNS, 2, 1999), "views"),
+            ("step 63", (STEPS, 1, 63), "views"),
+            ("step -1", (STEPS, 1, -1), "refused 9"),
+            ("edge 4,194,304", (Z, 1, 4_194_304), "views"),
+            ("edge 4,194,305", (Z, 1, 4_194_305), "refused 5")):
+        found = answer(packed(changed(EXAMPLE, change)))
+        expect(what, found[:len(wanted)], wanted)
+
+
+def check_case(case, found):
+    """A case made by hand has a plain name and shows what it was made for."""
+    expect(f"name {case.name}", bool(re.fullmatch("[a-z]+(-[a-z]+)*", case.name)), True)
+    expect(case.name, found.split("\n", 1)[0], case.first_line)
+
+
+# --- the files -------------------------------------------------------------
+
+def plan_files():
+    """All inputs with their answers, in order: name, bytes, answer."""
+    made = []
+    for group in GROUPS:
+        for case in group():
+            found = answer(case.data)
+            check_case(case, found)
+            made.append((f"case-{case.name}.plan", case.data, found))
+    made.extend((name, data, answer(data)) for name, data in random_files())
+    expect("number of different names", len({name for name, _, _ in made}), len(made))
+    return made
+
+
+def wanted_files(data_dir, stdout_file):
+    """The bytes of every file that is kept, by its path."""
+    made = plan_files()
+    files = {data_dir / name: data for name, data, _ in made}
+    files[data_dir / "list"] = "".join(f"{name}\n" for name, _, _ in made).encode()
+    files[stdout_file] = "".join(f"{name}\n{found}" for name, _, found in made).encode()
+    return files
+
+
+def too_many(data_dir, files):
+    """The plan files that lie in the directory and are not made."""
+    return [path for path in sorted(data_dir.glob("*.plan")) if path not in files]
+
+
+def write(data_dir, files):
+    """Writes all files and removes those that are too many."""
+    data_dir.mkdir(parents=True, exist_ok=True)
+    for path in too_many(data_dir, files):
+        path.unlink()
+    for path, data in files.items():
+        path.write_bytes(data)
+
+
+def compare(data_dir, files):
+    """Prints what differs; answers whether anything does."""
+    faults = []
+    for path, data in files.items():
+        if not path.is_file():
+            faults.append(f"missing: {path}")
+        elif path.read_bytes() != data:
+            faults.append(f"differs: {path}")
+    faults.extend(f"too many: {path}" for path in too_many(data_dir, files))
+    print("\n".join(faults or ["nothing differs"]))
+    return bool(faults)
+
+
+def main(arguments):
+    """Runs the program; answers its status."""
+    if arguments not in ([], ["--write"]):
+        print("usage: plan_files.py [--write]", file=sys.stderr)
+        return 2
+    check_example()
+    check_figures()
+    check_limits()
+    crate = Path(__file__).resolve().parent.parent / "crates" / "plan_files"
+    data_dir = crate / "data"
+    files = wanted_files(data_dir, crate / "stdout")
+    if arguments:
+        write(data_dir, files)
+        return 0
+    return 1 if compare(data_dir, files) else 0
+
+
+if __name__ == "__main__":
+    sys.exit(main(sys.argv[1:]))
