@@ -1,6 +1,6 @@
 -- A number that is refused in a section is one of its numbers.
 use Rattle.std.specs.Prelude.{◌≡◌, ℕ, ◌+◌, ◌-◌, ◌*◌, ◌<◌, ◌≤◌, Bool, true, false, List, length, ℤ, Option, Some, None, IfSome, pos, int_lt, ◌||◌, nat_le, unsigned_abs}
-use Rattle.std.proofs.Common.{arith, refl, sym, ap₂, subst}
+use Rattle.std.proofs.Common.{arith, refl, sym, ap₂, subst, ap, ◌∙◌}
 use Rattle.std.specs.Option.{option_or, option_map}
 use Rattle.scan.specs.AxisChecks.{edge_or_zero, first_outside, first_not_rising, edges_check, listed_check}
 use Rattle.scan.specs.Axes.{edge_of, widest}
@@ -14,7 +14,9 @@ use Rattle.planfile.specs.Faults.{refused_at}
 use Rattle.planfile.specs.declared.fault.Fault.TheVariants.{Refused}
 use Rattle.planfile.specs.declared.placed.Placed.{Placed}
 use Rattle.planfile.proofs.Searches.{first_below}
+use Rattle.planfile.specs.FileChecks.{section_check}
 use Rattle.planfile.proofs.SectionFacts.{section_count}
+use Rattle.planfile.proofs.SectionChecks.{section_known}
 
 -- the number of a section stands before its end
 pub placed_within : (bytes : List ℕ) (p i : ℕ) → i < length (section_at bytes p) → place_of p i < end_of bytes p
@@ -54,7 +56,7 @@ distance_named source panel r e =
     (where_names 2 near (SourceDistance source) (omega arith)) (where_names 2 far (PanelDistance panel source) (omega arith)))
 
 -- where the number of edges is one of an axis, their own check is left
-pub listed_counted : (es : List ℤ) → 2 ≤ length es → length es ≤ 513 → listed_check es ≡ edges_check es
+listed_counted : (es : List ℤ) → 2 ≤ length es → length es ≤ 513 → listed_check es ≡ edges_check es
 listed_counted es some few = grind arith
 
 -- a refusal and its place as a fault
@@ -69,3 +71,10 @@ column_named source panel x y column r some e =
     (either_names (length column) (source_check source x y) (columns_check panel column)
     (where_names (length column) near (SourceTooNear source (pos (widest x y))) some)
     (found_names (length column) (λ i. ColumnBeyond i (edge_of column i) panel) (first_beyond (unsigned_abs panel) column) (λ k f. first_below _ (length column) k f)))
+
+-- what is refused of the numbers of an axis's section is refused of its edges, since their number is one of an axis
+pub edges_refused : (bytes : List ℕ) (p : ℕ) (numbers : List ℤ) (r : Refusal) → section_check bytes p 2 513 ≡ None → numbers ≡ section_at bytes p → listed_check numbers ≡ Some r → edges_check (section_at bytes p) ≡ Some r
+edges_refused bytes p numbers r e same found =
+    let long = section_count bytes p in
+    let counted = section_known bytes p 2 513 e in
+    sym (listed_counted (section_at bytes p) (omega arith) (omega arith)) ∙ ap listed_check (sym same) ∙ found
