@@ -101,13 +101,13 @@ module _ {L : Landing} {slab : Slab} {column : Column} (sl : SlabOf L slab) (co 
       (overlap_sorted (L.U slab.number i) (L.U slab.number (i + 1)) (L.S column.number) (L.S (column.number + 1)))
 
   -- the column meets no voxel of the slab
-  pub column_none : (s : Strip) → Meets slab column s → s.last ≤ s.first → (x c : ℕ) → column_weight L slab.number column.number x c ≡ 0
+  pub column_none : (s : Strip) → Meets slab column s → s.last ≤ s.first → (low n : ℕ) → (x c : ℕ) → column_weight L slab.number column.number low n x c ≡ 0
   unfolding column_weight
-  column_none s v h x c =
+  column_none s v h low n x c =
       let e = ap (λ line. length line.edges.at.now) v.line in
-      let n = sl.crosses.0 in
-      sum_none naturals_laws L.heights _ (λ l lh.
-      no_voxels L slab.number column.number l x c
+      let size = sl.crosses.0 in
+      sum_none naturals_laws n _ (λ t h'.
+      no_voxels L slab.number column.number (low + t) x c
       (laid_zero _ _ _ L.crosses x (λ i ic. sym (cross_is s (ap (λ line. line.edges) v.line) v.over i ic) ∙ share_empty s h i (omega arith))))
 
   module _ {l : ℕ} (lh : l < L.heights) where

@@ -5,27 +5,41 @@ use Rattle.std.proofs.Math.Arith.{digits_div, digits_mod}
 use Rattle.geometry.specs.declared.direction.SlabAxis.{SlabAxis}
 use Rattle.geometry.specs.declared.direction.SlabAxis.TheVariants.{X, Y}
 use Rattle.values.specs.Sums.{sum}
-use Rattle.values.proofs.Sums.{sum_none, sum_only, sum_swap, sum_split}
+use Rattle.values.proofs.Sums.{sum_none, sum_only, sum_swap, sum_split, sum_plus, sum_same}
 use Rattle.scan.specs.Landing.{Landing, Sound, by_slabs, nx, ny, voxels, cells, slab_of, cross_of, height_of, cross_overlap, height_overlap, weight}
 use Rattle.values.specs.Naturals.{naturals}
 use Rattle.values.specs.Laws.{Ops, Laws}
 use Rattle.sweeps.specs.declared.pass.Pass.{Pass}
-use Rattle.sweeps.specs.Passes.{Sized, Swept, slab_start, slab_stride, rise, voxel_share, cell_share, beam_weight, column_weight, slab_weight, block_weight}
+use Rattle.sweeps.specs.Passes.{Sized, Swept, slab_start, slab_stride, rise, voxel_share, cell_share, beam_weight, column_weight, layers_weight, block_weight}
 use Rattle.values.proofs.Naturals.{naturals_laws}
 use Rattle.sweeps.proofs.Beams.{voxel_place, no_voxels, no_cells}
 use Rattle.sweeps.proofs.Laid.{laid_only, laid_miss}
-use Rattle.sweeps.proofs.Levels.{summed, swept_joined, swept_within}
+use Rattle.sweeps.proofs.Levels.{summed, swept_none, swept_joined, swept_within}
 
 -- what a voxel and a cell have of their weight in column k, over all slabs
 abbrev pub whole_column : Landing → ℕ → ℕ → ℕ → ℕ
-whole_column L k x c = sum naturals L.slabs (λ j. column_weight L j k x c)
+whole_column L k x c = sum naturals L.slabs (λ j. column_weight L j k 0 L.heights x c)
 
 -- a block after the columns before it
 block_more : (L : Landing) (first n x c : ℕ) → summed (whole_column L) first x c + block_weight L first n x c ≡ summed (whole_column L) (first + n) x c
-unfolding block_weight slab_weight
+unfolding block_weight layers_weight
 block_more L first n x c =
-    ap (λ u. summed (whole_column L) first x c + u) (sum_swap naturals_laws L.slabs n (λ j d. column_weight L j (first + d) x c))
+    ap (λ u. summed (whole_column L) first x c + u) (sum_swap naturals_laws L.slabs n (λ j d. column_weight L j (first + d) 0 L.heights x c))
     ∙ sym (sum_split naturals_laws first n (λ k. whole_column L k x c))
+
+-- the heights from the lowest on
+from_lowest : (L : Landing) (j k n x c : ℕ) → column_weight L j k 0 n x c ≡ sum naturals n (λ l. beam_weight L j k l x c)
+unfolding column_weight
+from_lowest L j k n x c = sum_same naturals_laws n _ _ (λ t h. let e : 0 + t ≡ t = omega arith in ap (λ l. beam_weight L j k l x c) e)
+
+-- some layers above the ones below them
+layers_more : (L : Landing) (first count j low n x c : ℕ) → layers_weight L first count j 0 low x c + layers_weight L first count j low n x c ≡ layers_weight L first count j 0 (low + n) x c
+unfolding layers_weight column_weight
+layers_more L first count j low n x c =
+    sym (sum_plus naturals_laws count _ _)
+    ∙ sum_same naturals_laws count _ _ (λ d h.
+    let M : ℕ → ℕ = λ l. beam_weight L j (first + d) l x c in
+    ap (λ u. u + sum naturals n (λ t. M (low + t))) (from_lowest L j (first + d) low x c) ∙ sym (sum_split naturals_laws low n M) ∙ sym (from_lowest L j (first + d) (low + n) x c))
 
 -- an axis has cells, whichever it is
 some_cells : (a : SlabAxis) (s c : ℕ) → 1 ≤ s → 1 ≤ c → 0 < by_slabs a s c
@@ -133,25 +147,33 @@ module _ (L : Landing) (sound : Sound L) (x c : ℕ) (xv : x < voxels L) (cc : c
   cell_miss j k l kc ne =
       no_cells L j k l x c (laid_miss k L.columns (λ m. height_overlap L j l k m) L.rows c (λ m mr e. ne (of_column k m kc e).0))
 
-  other_slab : (j : ℕ) → j < L.slabs → j ≢ j' → column_weight L j k' x c ≡ 0
-  unfolding column_weight
-  other_slab j js ne = sum_none naturals_laws L.heights _ (λ l lh. voxel_miss j k' l js (λ e f. ne e))
+  other_slab : (j : ℕ) → j < L.slabs → j ≢ j' → column_weight L j k' 0 L.heights x c ≡ 0
+  other_slab j js ne = from_lowest L j k' L.heights x c ∙ sum_none naturals_laws L.heights _ (λ l lh. voxel_miss j k' l js (λ e f. ne e))
 
   other_column : (k : ℕ) → k < L.columns → k ≢ k' → whole_column L k x c ≡ 0
-  unfolding column_weight
   other_column k kc ne =
-      sum_none naturals_laws L.slabs _ (λ j js. sum_none naturals_laws L.heights _ (λ l lh. cell_miss j k l kc ne))
+      sum_none naturals_laws L.slabs _ (λ j js. from_lowest L j k L.heights x c ∙ sum_none naturals_laws L.heights _ (λ l lh. cell_miss j k l kc ne))
 
   -- every voxel and cell have their weight, once
   whole_weight : summed (whole_column L) L.columns x c ≡ weight L x c
-  unfolding weight column_weight beam_weight
+  unfolding weight beam_weight
   whole_weight =
       sum_only naturals_laws L.columns k' (λ k. whole_column L k x c) column_below other_column
-      ∙ sum_only naturals_laws L.slabs j' (λ j. column_weight L j k' x c) slab_is_below other_slab
+      ∙ sum_only naturals_laws L.slabs j' (λ j. column_weight L j k' 0 L.heights x c) slab_is_below other_slab
+      ∙ from_lowest L j' k' L.heights x c
       ∙ sum_only naturals_laws L.heights l' (λ l. beam_weight L j' k' l x c) height_below (λ l lh ne. voxel_miss j' k' l slab_is_below (λ e f. ne f))
       ∙ ap₂ (λ a b. a * b) (voxel_here k') (cell_here j' l')
 
 module _ {V View : Type 0} {o : Ops V} (laws : Laws o) {pass : Pass V View} (L : Landing) {old : List V} where
+  -- a sweep of no layers yet
+  pub layers_none : (first count j : ℕ) → Swept o pass (layers_weight L first count j 0 0) old old
+  unfolding layers_weight column_weight sum
+  layers_none first count j = swept_none laws (λ x c. sum_none naturals_laws count _ (λ d h. refl))
+
+  -- a sweep of the layers below some, and one of these
+  pub layers_swept : (first count j low n : ℕ) {mid new : List V} → length mid ≡ length old → Swept o pass (layers_weight L first count j 0 low) old mid → Swept o pass (layers_weight L first count j low n) mid new → Swept o pass (layers_weight L first count j 0 (low + n)) old new
+  layers_swept first count j low n len = swept_joined laws len (layers_more L first count j low n)
+
   -- a sweep of the columns before a block, and one of the block
   pub block_swept : (first n : ℕ) {mid new : List V} → length mid ≡ length old → Swept o pass (summed (whole_column L) first) old mid → Swept o pass (block_weight L first n) mid new → Swept o pass (summed (whole_column L) (first + n)) old new
   block_swept first n len = swept_joined laws len (block_more L first n)

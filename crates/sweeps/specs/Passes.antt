@@ -63,13 +63,17 @@ cell_share L j k l c = laid k L.columns (λ m. height_overlap L j l k m) L.rows 
 unfoldable pub beam_weight : Landing → ℕ → ℕ → ℕ → ℕ → ℕ → ℕ
 beam_weight L j k l x c = voxel_share L j k l x * cell_share L j k l c
 
--- The same over all heights.
-unfoldable pub column_weight : Landing → ℕ → ℕ → ℕ → ℕ → ℕ
-column_weight L j k x c = sum naturals L.heights (λ l. beam_weight L j k l x c)
+-- The same over n heights from `low` on.
+unfoldable pub column_weight : Landing → ℕ → ℕ → ℕ → ℕ → ℕ → ℕ → ℕ
+column_weight L j k low n x c = sum naturals n (λ t. beam_weight L j k (low + t) x c)
 
--- The same over n columns from the first on.
-unfoldable pub slab_weight : Landing → ℕ → ℕ → ℕ → ℕ → ℕ → ℕ
-slab_weight L first n j x c = sum naturals n (λ d. column_weight L j (first + d) x c)
+-- The same over `count` columns from the first on.
+unfoldable pub layers_weight : Landing → ℕ → ℕ → ℕ → ℕ → ℕ → ℕ → ℕ → ℕ
+layers_weight L first count j low n x c = sum naturals count (λ d. column_weight L j (first + d) low n x c)
+
+-- The same over all heights.
+abbrev pub slab_weight : Landing → ℕ → ℕ → ℕ → ℕ → ℕ → ℕ
+slab_weight L first count j = layers_weight L first count j 0 L.heights
 
 -- The same over all slabs.
 unfoldable pub block_weight : Landing → ℕ → ℕ → ℕ → ℕ → ℕ

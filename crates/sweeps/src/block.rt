@@ -1,9 +1,9 @@
-ghost use Rattle.std.specs.Prelude.{◌≡◌, ◌+◌, ◌-◌, ◌<◌, length};
-ghost use Rattle.sweeps.specs.Passes.{Sized, Swept, column_weight, slab_weight, block_weight, slab_start, slab_stride, rise, SlabOf, ColumnOf, BlockOf};
+ghost use Rattle.std.specs.Prelude.{◌≡◌, ◌+◌, ◌-◌, ◌<◌, ◌≤◌, length};
+ghost use Rattle.sweeps.specs.Passes.{Sized, Swept, column_weight, layers_weight, slab_weight, block_weight, slab_start, slab_stride, rise, SlabOf, ColumnOf, BlockOf};
 
 use crate::crossing::Crossing;
 use crate::edges::LandedEdges;
-use crate::pass::{Column, Pass, RunStarts, Slab};
+use crate::pass::{Column, Layers, Pass, RunStarts, Slab};
 use crate::strip::Line;
 use geometry::direction::SlabAxis;
 use geometry::stretch::Stretch;
@@ -13,6 +13,10 @@ use values::value::Value;
 
 // The most edges that an axis has.
 pub(crate) const MOST_EDGES: usize = MOST_CELLS + 1;
+
+// How many layers are swept at once, column after column: of so few the voxels that one column has read are still in the
+// processor's cache for the next, which meets most of them again.
+const LAYERS: usize = 32;
 
 // Some columns of a view side by side, from `first` on: their landed edges, and those of the rows in each, column after column.
 #[derive(Drop)]
@@ -52,18 +56,43 @@ impl<'a, V: Value, L: Landed> Block<'a, V, L> {
         let heights = LandedEdges::filled(&mut heights[0..view.heights() + 1], |i| {
             view.height_edge(number, i)
         });
-        self.sweep_columns(slab_of(view, number, crosses, heights), near, to)
+        self.sweep_heights(slab_of(view, number, crosses, heights), near, to)
     }
 
-    // Column after column. The runs found for one are where the next one's search begins.
-    fn sweep_columns(&self, slab: Slab<'_>, near: RunStarts, to: &mut [V]) -> RunStarts
+    // Some layers after others.
+    fn sweep_heights(&self, slab: Slab<'_>, near: RunStarts, to: &mut [V]) -> RunStarts
         requires sized { Sized (L.Landed.landing self.now.pass.now.view.now) self.now.pass.now (length to.old) }
         requires slab { SlabOf (L.Landed.landing self.now.pass.now.view.now) slab }
         ensures { Swept V.Value.ops self.now.pass.now (slab_weight (L.Landed.landing self.now.pass.now.view.now) self.now.first (length self.now.columns.now - 1) slab.entry.number) to.old to.new }
     {
+        let heights = slab.heights.cells();
+        let mut near = near;
+        for first in (0..heights).step_by(LAYERS) {
+            let layers = Layers {
+                first,
+                count: LAYERS.min(heights - first),
+            };
+            near = self.sweep_columns(slab, layers, near, to);
+        }
+        near
+    }
+
+    // Column after column. The runs found for one are where the next one's search begins.
+    fn sweep_columns(
+        &self,
+        slab: Slab<'_>,
+        layers: Layers,
+        near: RunStarts,
+        to: &mut [V],
+    ) -> RunStarts
+        requires sized { Sized (L.Landed.landing self.now.pass.now.view.now) self.now.pass.now (length to.old) }
+        requires slab { SlabOf (L.Landed.landing self.now.pass.now.view.now) slab }
+        requires layers { layers.first + layers.count ≤ (L.Landed.landing self.now.pass.now.view.now).heights }
+        ensures { Swept V.Value.ops self.now.pass.now (layers_weight (L.Landed.landing self.now.pass.now.view.now) self.now.first (length self.now.columns.now - 1) slab.entry.number layers.first layers.count) to.old to.new }
+    {
         let mut near = near;
         for offset in 0..self.columns.len() - 1 {
-            near = sweep_column(self.pass, slab, self.column(offset), near, to);
+            near = sweep_column(self.pass, slab, layers, self.column(offset), near, to);
         }
         near
     }
@@ -92,18 +121,20 @@ impl<'a, V: Value, L: Landed> Block<'a, V, L> {
     }
 }
 
-// One slab and one column. Answers where their runs begin, for the next column.
+// Some layers of one slab, and one column. Answers where their runs begin, for the next column.
 fn sweep_column<V: Value, L: Landed>(
     pass: &Pass<'_, V, L>,
     slab: Slab<'_>,
+    layers: Layers,
     column: Column<'_>,
     near: RunStarts,
     to: &mut [V],
 ) -> RunStarts
     requires sized { Sized (L.Landed.landing pass.now.view.now) pass.now (length to.old) }
     requires slab { SlabOf (L.Landed.landing pass.now.view.now) slab }
+    requires layers { layers.first + layers.count ≤ (L.Landed.landing pass.now.view.now).heights }
     requires column { ColumnOf (L.Landed.landing pass.now.view.now) column }
-    ensures { Swept V.Value.ops pass.now (column_weight (L.Landed.landing pass.now.view.now) slab.entry.number column.entry.number) to.old to.new }
+    ensures { Swept V.Value.ops pass.now (column_weight (L.Landed.landing pass.now.view.now) slab.entry.number column.entry.number layers.first layers.count) to.old to.new }
 {
     let voxels = slab.lowest.over(column.over, near.voxels);
     let mut rows = near.rows;
@@ -114,7 +145,7 @@ fn sweep_column<V: Value, L: Landed>(
             column,
             voxels,
         };
-        rows = crossing.sweep(rows, to);
+        rows = crossing.sweep(layers, rows, to);
     }
     RunStarts {
         voxels: voxels.first,

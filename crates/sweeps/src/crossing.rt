@@ -1,9 +1,9 @@
-ghost use Rattle.std.specs.Prelude.{◌*◌, ◌<◌, length};
+ghost use Rattle.std.specs.Prelude.{◌+◌, ◌*◌, ◌<◌, ◌≤◌, length};
 ghost use Rattle.sweeps.specs.Strips.{strip_share};
 ghost use Rattle.sweeps.specs.Passes.{Sized, Swept, Placed, beam_weight, column_weight, SlabOf, ColumnOf, Meets, VoxelLine, CellLine};
 
 use crate::carry::carry;
-use crate::pass::{Column, Pass, Slab, Way};
+use crate::pass::{Column, Layers, Pass, Slab, Way};
 use crate::strip::Strip;
 use scan::landed::Landed;
 use values::value::Value;
@@ -21,19 +21,17 @@ pub(crate) struct Crossing<'a, V, L: Landed> {
 }
 
 impl<V: Value, L: Landed> Crossing<'_, V, L> {
-    // Height after height of the slab. Answers where the run of rows over the lowest begins, for the next column.
-    pub(crate) fn sweep(&self, near: usize, to: &mut [V]) -> usize
-        requires { Sized (L.Landed.landing self.now.pass.now.view.now) self.now.pass.now (length to.old) }
-        ensures { Swept V.Value.ops self.now.pass.now (column_weight (L.Landed.landing self.now.pass.now.view.now) self.now.slab.number self.now.column.number) to.old to.new }
+    // Height after height of some layers. Answers where the run of rows over the lowest begins, for the next column.
+    pub(crate) fn sweep(&self, layers: Layers, near: usize, to: &mut [V]) -> usize
+        requires sized { Sized (L.Landed.landing self.now.pass.now.view.now) self.now.pass.now (length to.old) }
+        requires layers { layers.first + layers.count ≤ (L.Landed.landing self.now.pass.now.view.now).heights }
+        ensures { Swept V.Value.ops self.now.pass.now (column_weight (L.Landed.landing self.now.pass.now.view.now) self.now.slab.number self.now.column.number layers.first layers.count) to.old to.new }
     {
-        let lowest = self
-            .column
-            .cells
-            .edges
-            .run_start(self.slab.heights.at[0], near);
+        let rows = self.column.cells.edges;
+        let lowest = rows.run_start(self.slab.heights.at[layers.first], near);
         let mut near = lowest;
-        for height in 0..self.slab.heights.cells() {
-            near = self.sweep_height(height, near, to);
+        for offset in 0..layers.count {
+            near = self.sweep_height(layers.first + offset, near, to);
         }
         lowest
     }

@@ -30,8 +30,15 @@ pub(crate) struct Slab<'a> {
     pub(crate) heights: LandedEdges<'a>,
 }
 
-// Where the runs of a slab and a column begin: that of its voxels, and that of the rows over its lowest height. They are
-// where the search for the next column's runs begins, and any numbers would do.
+// Some heights of the volume, one above another.
+#[derive(Clone, Copy)]
+pub(crate) struct Layers {
+    pub(crate) first: usize,
+    pub(crate) count: usize,
+}
+
+// Where the runs of a slab and a column begin: that of its voxels, and that of the rows over the lowest of some layers.
+// They are where the search for the next column's runs begins, and any numbers would do.
 #[derive(Clone, Copy)]
 pub(crate) struct RunStarts {
     pub(crate) voxels: usize,

@@ -10,7 +10,7 @@ use scan::landed::Landed;
 use values::value::Value;
 
 // The columns of a block: the row edges of so many fit a small table, and the slabs' edges are computed once for all of them.
-const BLOCK: usize = 16;
+const BLOCK: usize = 32;
 
 // The most row edges of a block.
 const MOST_ROW_EDGES: usize = BLOCK * MOST_EDGES;
@@ -30,7 +30,7 @@ pub(crate) fn sweep<V: Value, L: Landed>(pass: &Pass<'_, V, L>, to: &mut [V])
 fn sweep_block<V: Value, L: Landed>(pass: &Pass<'_, V, L>, first: usize, count: usize, to: &mut [V])
     requires sized { Sized (L.Landed.landing pass.now.view.now) pass.now (length to.old) }
     requires below { first + count ≤ (L.Landed.landing pass.now.view.now).columns }
-    requires few { count ≤ 16 }
+    requires few { count ≤ 32 }
     ensures { Swept V.Value.ops pass.now (block_weight (L.Landed.landing pass.now.view.now) first count) to.old to.new }
 {
     let view = pass.view;

@@ -12,7 +12,7 @@ loop-first-preserved g c =
     let L = g.L.Landed.landing c.args.pass.now.view.now in
     let laws = g.met.V.Value.lawful in
     let columns = c.columns-columns.ensures in
-    let next : c.loop-first.first + c.min.result ≡ c.loop-first.first + 16 = omega arith in
+    let next : c.loop-first.first + c.min.result ≡ c.loop-first.first + 32 = omega arith in
     (omega arith, rw next at (block_swept laws L _ _ c.loop-first.auto.to c.loop-first.invariant.1 c.sweep_block.ensures))
 
 pub returns : goal.returns

@@ -2,8 +2,8 @@ use Rattle.std.proofs.Common.{◌≡◌, ◌+◌, ◌<◌, length, arith, rules}
 use Rattle.sweeps.specs.Tables.{Tabled}
 use Rattle.sweeps.proofs.block.Block.sweep_slab.Goals as goal
 
-pub sweep_columns-requires-clause-slab : goal.sweep_columns-requires-clause-slab
-sweep_columns-requires-clause-slab g c =
+pub sweep_heights-requires-clause-slab : goal.sweep_heights-requires-clause-slab
+sweep_heights-requires-clause-slab g c =
     let L = g.L.Landed.landing c.args.self.now.pass.now.view.now in
     let number = c.args.number in
     let e = c.slab_of.ensures in
