@@ -19,8 +19,9 @@ impl Edges for &[i32] {
     }
 
     fn get(&self, i: usize) -> i64 {
-        if i < self.len() {
-            i64::from(self[i])
+        let edges = *self;
+        if i < edges.len() {
+            i64::from(edges[i])
         } else {
             0
         }
