@@ -1,4 +1,4 @@
--- Counts keep the laws.
+-- Lemmas, no definitions of the subject: Counts keep the laws.
 use Rattle.std.specs.Prelude.{◌≡◌, ℕ, ◌^◌, ◌<◌}
 use Rattle.std.proofs.Common.{ap, subst, add_comm, add_assoc, mul_comm, mul_assoc, mul-add, arith}
 use Rattle.std.proofs.Math.Nat.{mod-add-mod, add-mod-mod}
@@ -8,6 +8,7 @@ use Rattle.values.specs.Laws.{Laws}
 use Rattle.values.specs.Counts.{counted, count_ops}
 use Rattle.values.specs.declared.count.Count.{Count}
 
+-- a Count of bits that fit
 abbrev make : (n : ℕ) → n < 2 ^ 64 → Count
 make n h = record { bits = n; fits = h }
 
@@ -16,6 +17,7 @@ pub same : {x y : Count} → x.bits ≡ y.bits → x ≡ y
 same {x} {y} e =
     subst (λ (b : ℕ). (q : b < 2 ^ 64) → x ≡ make b q) e (λ q. ap (make x.bits) (le_prop x.fits q)) y.fits
 
+-- each law of Counts, from that of whole numbers
 pub count_laws : Laws count_ops
 count_laws = record {
   plus_comm = λ x y. ap counted (add_comm x.bits y.bits);

@@ -22,7 +22,7 @@ count_ops = record {
 abbrev pub shown : Count → ℤ
 shown x = to_z w64 x.bits
 
--- The 64 bits, in two's complement, of a signed number.
+-- The 64 bits of a signed number in two's complement.
 abbrev pub bits_of : ℤ → ℕ
 bits_of z = of_z w64 z
 

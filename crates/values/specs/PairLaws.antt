@@ -1,13 +1,15 @@
--- Pairs keep the laws, since Counts do.
+-- Lemmas, no definitions of the subject: Pairs keep the laws, since Counts do.
 use Rattle.std.specs.Prelude.{◌≡◌}
 use Rattle.values.specs.Laws.{Laws}
 use Rattle.values.specs.Pairs.{paired, pair_ops}
 use Rattle.values.specs.declared.count.Count.{Count}
 use Rattle.values.specs.CountLaws.{count_laws}
 
+-- equal parts make equal Pairs
 pub both : {a b c d : Count} → a ≡ b → c ≡ d → paired a c ≡ paired b d
 both p q = λ i. paired (p i) (q i)
 
+-- each law of Pairs, from that of Counts
 pub pair_laws : Laws pair_ops
 pair_laws = record {
   plus_comm = λ x y. both (count_laws.plus_comm x.first y.first) (count_laws.plus_comm x.second y.second);

@@ -1,14 +1,16 @@
--- Reaches keep the laws.
+-- Lemmas, no definitions of the subject: Reaches keep the laws.
 use Rattle.std.specs.Prelude.{◌≡◌, refl, Bool, ◌||◌, ℕ, zero, suc}
 use Rattle.std.proofs.Common.{ap, sym, add-one}
 use Rattle.std.proofs.Math.Bool.{or_comm, or_assoc, or-false, or_self, and_comm, and_assoc, and-or_distrib_left, and-false}
 use Rattle.values.specs.Laws.{Laws}
 use Rattle.values.specs.Reaches.{reached, unless_none, reach_ops}
 
+-- the multiple by one more is the multiple, or the value
 one_more : (n : ℕ) (b : Bool) → unless_none (suc n) b ≡ (unless_none n b || b)
 one_more zero b = refl
 one_more (suc n) b = sym (or_self b)
 
+-- each law of Reaches, from those of yes and no
 pub reach_laws : Laws reach_ops
 reach_laws = record {
   plus_comm = λ x y. ap reached (or_comm x.yes y.yes);

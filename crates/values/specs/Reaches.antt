@@ -3,16 +3,16 @@ use Rattle.std.specs.Prelude.{Bool, false, ◌||◌, ◌&&◌, ℕ, zero, suc}
 use Rattle.values.specs.Laws.{Ops}
 use Rattle.values.specs.declared.reach.Reach.{Reach}
 
--- The Reach of an answer.
+-- The Reach of yes or no.
 abbrev pub reached : Bool → Reach
 reached b = record { yes = b }
 
--- The multiple of an answer: no by 0, and the answer itself by any other number.
+-- The multiple of yes or no by a whole number: no by 0, and the same by any other.
 abbrev pub unless_none : ℕ → Bool → Bool
 unless_none zero b = false
 unless_none (suc n) b = b
 
--- Zero is no, the sum is "either", the product is "both".
+-- Zero is no, the sum is "either", the product is "both", and the multiple is as above.
 abbrev pub reach_ops : Ops Reach
 reach_ops = record {
   zero = reached false;
