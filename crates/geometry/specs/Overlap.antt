@@ -1,29 +1,29 @@
--- The overlap of two stretches, whose ends stand in either order.
+-- The overlap of two stretches, whose ends stand in either order: the kernel of De Man and Basu (2004), equation (4).
 use Rattle.std.specs.Prelude.{◌≡◌, ℕ, zero, suc, ◌+◌, ◌<◌, ◌⊎◌, ℤ, pos, negsuc, ◌-ℤ◌, ◌≤ℤ◌}
 use Rattle.std.specs.Int.{int_min, int_max}
 
--- z, or 0 where z is below it
+-- z, or 0 where z is below 0.
 abbrev pub or_zero : ℤ → ℕ
 or_zero (pos n) = n
 or_zero (negsuc n) = 0
 
--- the lower of the upper ends less the higher of the lower ends, or 0
+-- The overlap of the stretches from a0 to a1 and from b0 to b1: the lower of the upper ends less the higher of the lower ends, or 0 if that is negative.
 abbrev pub overlap : ℤ → ℤ → ℤ → ℤ → ℕ
 overlap a0 a1 b0 b1 = or_zero (int_min (int_max a0 a1) (int_max b0 b1) -ℤ int_max (int_min a0 a1) (int_min b0 b1))
 
--- the sum of the overlaps of the stretch from u0 to u1 with the first n of the stretches between the edges S 0, S 1, ..
+-- The sum of the overlaps of the stretch from u0 to u1 with the first n of the stretches between the edges S 0, S 1, ...
 abbrev pub overlaps : ℤ → ℤ → (ℕ → ℤ) → ℕ → ℕ
 overlaps u0 u1 S zero = 0
 overlaps u0 u1 S (suc n) = overlaps u0 u1 S n + overlap u0 u1 (S n) (S (suc n))
 
--- the first n + 1 edges never fall, or never rise
+-- The edges S 0, .., S n never fall, or they never rise.
 abbrev pub OneWay : (ℕ → ℤ) → ℕ → Type 0
 OneWay S n = ((k : ℕ) → k < n → S k ≤ℤ S (suc k)) ⊎ ((k : ℕ) → k < n → S (suc k) ≤ℤ S k)
 
--- the overlaps with stretches that follow one another one way add up to the overlap with the whole
+-- The overlaps with stretches that follow one another one way add up to the overlap with the whole.
 abbrev pub Conserved : Type 0
 Conserved = (u0 u1 : ℤ) (S : ℕ → ℤ) (n : ℕ) → OneWay S n → overlaps u0 u1 S n ≡ overlap u0 u1 (S 0) (S n)
 
--- which end of a stretch comes first does not matter to the overlap
+-- Which end of a stretch comes first does not matter to the overlap.
 abbrev pub EitherWay : Type 0
 EitherWay = (a0 a1 b0 b1 : ℤ) → overlap (int_min a0 a1) (int_max a0 a1) (int_min b0 b1) (int_max b0 b1) ≡ overlap a0 a1 b0 b1

@@ -1,7 +1,7 @@
--- What the two parts of every direction keep.
+-- What the two parts a and b of every direction keep.
 use Rattle.std.specs.Prelude.{◌≤◌, ℤ, unsigned_abs}
 
--- a lies between 11585 and 16384 in size, and b is no greater than a in size
+-- The central ray runs at most 45 degrees off the slab axis: 11,585 <= |a| <= 16,384, and |b| <= |a|.
 pub record Steep (a b : ℤ) : Type 0 where
   pub least : 11585 ≤ unsigned_abs a
   pub most : unsigned_abs a ≤ 16384
