@@ -1,4 +1,4 @@
--- What is checked of the edges of an axis, in which order, and the refusal that follows.
+-- What is checked of the edges of an axis, in which order, and the refusal that follows: a check is none where nothing is refused.
 use Rattle.std.specs.Option.{option_or, option_map}
 use Rattle.std.specs.Prelude.{ℕ, ◌+◌, ◌-◌, ◌||◌, List, length, ℤ, pos, Option, slice_index_or, unsigned_abs, int_le, nat_lt}
 use Rattle.scan.specs.Axes.{even_edges}
@@ -10,7 +10,7 @@ use Rattle.scan.specs.declared.refusal.Refusal.TheVariants.{Count, NotRising, Ou
 abbrev pub edge_or_zero : List ℤ → ℕ → ℤ
 edge_or_zero es i = slice_index_or es i (pos 0)
 
--- The first edge that lies more than the limit from 0.
+-- The first edge whose size is above the limit.
 abbrev pub first_outside : ℕ → List ℤ → Option ℕ
 first_outside limit es = first_where (λ i. nat_lt limit (unsigned_abs (edge_or_zero es i))) (length es)
 
@@ -18,13 +18,13 @@ first_outside limit es = first_where (λ i. nat_lt limit (unsigned_abs (edge_or_
 abbrev pub first_not_rising : List ℤ → Option ℕ
 first_not_rising es = first_where (λ i. int_le (edge_or_zero es (i + 1)) (edge_or_zero es i)) (length es - 1)
 
--- All edges have to lie in range (5), and then each above the one before it (4).
+-- 5 for the first edge out of range, and then 4 for the first that is not above the one before it.
 abbrev pub edges_check : List ℤ → Option Refusal
 edges_check es =
     option_or (option_map (λ i. OutOfRange i (edge_or_zero es i)) (first_outside 4194304 es))
     (option_map (λ i. NotRising (i + 1) (edge_or_zero es i) (edge_or_zero es (i + 1))) (first_not_rising es))
 
--- A count has to lie within its limits (2).
+-- 2 for a count outside its limits.
 abbrev pub count_check : ℕ → ℕ → ℕ → Option Refusal
 count_check found least most = refused_where (nat_lt found least || nat_lt most found) (Count found least most)
 

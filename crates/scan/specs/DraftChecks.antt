@@ -6,7 +6,7 @@ use Rattle.scan.specs.Verdicts.{refused_where, first_where}
 use Rattle.scan.specs.declared.refusal.Refusal.{Refusal}
 use Rattle.scan.specs.declared.refusal.Refusal.TheVariants.{SourceDistance, PanelDistance, SourceTooNear, ColumnBeyond, StepOutOfRange, DraftFull}
 
--- The first edge that lies as far from 0 as the limit, or farther.
+-- The first edge whose size is the limit or above.
 abbrev pub first_beyond : ℕ → List ℤ → Option ℕ
 first_beyond limit es = first_where (λ i. nat_le limit (unsigned_abs (edge_of es i))) (length es)
 
@@ -16,11 +16,11 @@ distances_check source panel =
     option_or (refused_where (int_lt source (pos 1) || int_lt (pos 16777216) source) (SourceDistance source))
     (refused_where (int_lt panel source || int_lt (pos 33554432) panel) (PanelDistance panel source))
 
--- 7 where D is at most twice the farthest edge of x and y.
+-- 7 where D is at most twice the greatest |edge| of x and y.
 abbrev pub source_check : ℤ → List ℤ → List ℤ → Option Refusal
 source_check source x y = refused_where (nat_le (unsigned_abs source) (2 * widest x y)) (SourceTooNear source (pos (widest x y)))
 
--- 8 for the first edge of the columns that lies as far from 0 as F, or farther.
+-- 8 for the first edge of the columns with |edge| >= F.
 abbrev pub columns_check : ℤ → List ℤ → Option Refusal
 columns_check panel column = option_map (λ i. ColumnBeyond i (edge_of column i) panel) (first_beyond (unsigned_abs panel) column)
 

@@ -1,4 +1,4 @@
--- Every layout fits.
+-- Lemmas, no definitions of the subject: what a draft or a plan holds keeps the limits.
 use Rattle.std.specs.Prelude.{◌≡◌, ℕ, zero, suc, ◌<◌, List, [], ◌∷◌, length, ℤ, vec_items, vec_len, Vec, slice_index, slice_index_or}
 use Rattle.std.proofs.Common.{sym, ap, ◌∙◌, arith}
 use Rattle.std.specs.declared.alloc.Global.{Global}
@@ -16,6 +16,7 @@ use Rattle.scan.specs.Meanings.{numbers, scan_of}
 pub views_length : (views : Vec Step Global) → vec_len views ≡ length (numbers (vec_items views))
 views_length views = views.ok.0 ∙ sym (length-map (vec_items views) (λ (step : Step). step.number))
 
+-- every step is below 64
 step_below : (steps : List Step) (v : ℕ) → slice_index (numbers steps) v < 64
 step_below [] v = omega arith
 step_below (step ∷ steps) zero = step.below
@@ -25,6 +26,7 @@ step_below (step ∷ steps) (suc v) = step_below steps v
 pub number_at : (steps : List Step) (v : ℕ) (step : Step) → v < length steps → step ≡ slice_index_or steps v step → step.number ≡ slice_index (numbers steps) v
 number_at steps v step l e = ap (λ (s : Step). s.number) e ∙ sym (get_or-map (λ (s : Step). s.number) steps v step 0 l)
 
+-- every layout keeps the limits
 pub fitted : (layout : Layout) → Fitted (scan_of layout)
 fitted layout =
     let far = layout.distances.admitted in

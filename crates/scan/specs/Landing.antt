@@ -1,10 +1,10 @@
--- Where the edges of one view land on the common plane, and the weights that follow from it.
+-- Where the edges of one view land on the common plane, and the weights that follow: the areas of overlap of De Man and Basu (2004), section 2.3.
 use Rattle.std.specs.Prelude.{ℕ, ◌+◌, ◌*◌, ◌/◌, ◌%◌, ◌^◌, ◌<◌, ◌≤◌, ◌⊎◌, ℤ, ◌≤ℤ◌, unsigned_abs}
 use Rattle.geometry.specs.Overlap.{overlap}
 use Rattle.geometry.specs.declared.direction.SlabAxis.{SlabAxis}
 use Rattle.geometry.specs.declared.direction.SlabAxis.TheVariants.{X, Y}
 
--- One view: its slab axis, its numbers of cells, and where its edges land: U j i is edge i of the cross axis in slab j, W j l edge l of z in slab j, S k edge k of the columns, and T k m edge m of the rows in column k.
+-- One view: its slab axis, its numbers of slabs, of cells of the cross axis and of z, and of panel columns and rows, and where its edges land.
 pub record Landing : Type 0 where
   pub along : SlabAxis
   pub slabs : ℕ
@@ -12,12 +12,16 @@ pub record Landing : Type 0 where
   pub heights : ℕ
   pub columns : ℕ
   pub rows : ℕ
+  -- U j i: edge i of the cross axis, in slab j
   pub U : ℕ → ℕ → ℤ
+  -- W j l: edge l of z, in slab j
   pub W : ℕ → ℕ → ℤ
+  -- S k: edge k of the columns
   pub S : ℕ → ℤ
+  -- T k m: edge m of the rows, in column k
   pub T : ℕ → ℕ → ℤ
 
--- One of two, by whether the slabs are the cells of x or of y.
+-- The first of two where the slabs are the cells of x, and the second where they are the cells of y.
 abbrev pub by_slabs : {A : Type 0} → SlabAxis → A → A → A
 by_slabs X a b = a
 by_slabs Y a b = b
@@ -34,11 +38,11 @@ ny L = by_slabs L.along L.crosses L.slabs
 abbrev pub voxels : Landing → ℕ
 voxels L = L.heights * ny L * nx L
 
--- The number of panel cells: the cell of row m and column k stands at place m columns + k.
+-- The number of panel cells: the cell of row m and column k stands at place m columns + k of the view.
 abbrev pub cells : Landing → ℕ
 cells L = L.rows * L.columns
 
--- The slab of the voxel at place x.
+-- The number of the slab of the voxel at place x.
 abbrev pub slab_of : Landing → ℕ → ℕ
 slab_of L x = by_slabs L.along (x % nx L) (x / nx L % ny L)
 
@@ -50,15 +54,15 @@ cross_of L x = by_slabs L.along (x / nx L % ny L) (x % nx L)
 abbrev pub height_of : Landing → ℕ → ℕ
 height_of L x = x / nx L / ny L
 
--- The overlap of the cross cell i of slab j with column k: that of its U stretch and the column's S stretch.
+-- The in-plane overlap, o1 of the paper, of the cross cell i of slab j with column k: that of its U stretch and the column's S stretch.
 unfoldable pub cross_overlap : Landing → ℕ → ℕ → ℕ → ℕ
 cross_overlap L j i k = overlap (L.U j i) (L.U j (i + 1)) (L.S k) (L.S (k + 1))
 
--- The overlap of height l of slab j with row m of column k: that of its W stretch and the cell's T stretch.
+-- The out-of-plane overlap, o2 of the paper, of height l of slab j with row m of column k: that of its W stretch and the cell's T stretch.
 unfoldable pub height_overlap : Landing → ℕ → ℕ → ℕ → ℕ → ℕ
 height_overlap L j l k m = overlap (L.W j l) (L.W j (l + 1)) (L.T k m) (L.T k (m + 1))
 
--- The weight of the voxel at place x and the cell at place c: the product of their two overlaps.
+-- The weight of the voxel at place x and the cell at place c: the product of their two overlaps, which is the area in which they overlap.
 unfoldable pub weight : Landing → ℕ → ℕ → ℕ
 weight L x c =
     cross_overlap L (slab_of L x) (cross_of L x) (c % L.columns)

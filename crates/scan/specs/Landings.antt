@@ -1,4 +1,4 @@
--- The edges of a scan that fits land soundly from every direction.
+-- Lemmas, no definitions of the subject: the edges of a scan that keeps the limits land soundly from every direction.
 use Rattle.std.specs.Prelude.{ℕ, zero, suc, ◌+◌, ◌-◌, ◌*◌, ◌/◌, ◌%◌, ◌^◌, ◌<◌, ◌≤◌, min, max, List, [], ◌∷◌, length, ℤ, pos, ◌*ℤ◌, ◌≤ℤ◌, ◌<ℤ◌, fold, slice_index_or, unsigned_abs}
 use Rattle.std.proofs.Common.{inl, inr, arith}
 use Rattle.std.proofs.Math.Nat.{mul-le-mul}

@@ -1,17 +1,17 @@
--- What every draft and every plan keeps.
+-- The limits that every draft and every plan keeps.
 use Rattle.std.specs.Prelude.{ℕ, ◌*◌, ◌^◌, ◌<◌, ◌≤◌, List, length, ℤ, pos, ◌≤ℤ◌, slice_index, slice_index_or, unsigned_abs}
 use Rattle.scan.specs.Axes.{Proper, widest}
 use Rattle.scan.specs.Scans.{Scan}
 
--- Twice any edge of x and y lies less than D from 0.
+-- D is above twice the greatest |edge| of x and y.
 abbrev pub SourceClear : ℤ → List ℤ → List ℤ → Type 0
 SourceClear source x y = 2 * widest x y < unsigned_abs source
 
--- Every edge of the columns lies less than F from 0.
+-- F is above |edge| for every edge of the columns.
 abbrev pub ColumnsNearer : ℤ → List ℤ → Type 0
 ColumnsNearer panel column = (i : ℕ) → i < length column → unsigned_abs (slice_index_or column i (pos 0)) < unsigned_abs panel
 
--- What every draft and every plan keeps.
+-- The limits: 1 <= D <= 2^24, D <= F <= 2^25, five proper axes, D above twice the greatest |edge| of x and y, F above |edge| for every column edge, steps from 0 to 63, and at most 1,024 views.
 pub record Fitted (scan : Scan) : Type 0 where
   pub source_least : pos 1 ≤ℤ scan.source
   pub source_most : scan.source ≤ℤ pos (2 ^ 24)

@@ -6,11 +6,11 @@ use Rattle.scan.specs.declared.layout.Layout.{Layout}
 use Rattle.scan.specs.declared.draft.Draft.{Draft}
 use Rattle.scan.specs.declared.plan.Plan.{Plan}
 
--- The numbers of some steps.
+-- The numbers, from 0 to 63, of some steps.
 abbrev pub numbers : List Step → List ℕ
 numbers steps = map (λ step. step.number) steps
 
--- The scan of a layout.
+-- The scan of a layout, which is what a draft and a plan are made of.
 abbrev pub scan_of : Layout → Scan
 scan_of layout =
     record {

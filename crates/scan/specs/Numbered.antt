@@ -1,4 +1,4 @@
--- The edges of an axis by their numbers.
+-- Lemmas, no definitions of the subject: the edges of an axis by their numbers.
 use Rattle.std.specs.Prelude.{◌≡◌, ℕ, ◌+◌, ◌-◌, ◌<◌, ◌≤◌, min, List, map, length, ℤ, pos, ◌≤ℤ◌, slice_index_or, unsigned_abs, refl}
 use Rattle.std.specs.List.{range_with_len}
 use Rattle.std.proofs.Common.{sym, ap, ⊎_elim, arith}

@@ -6,7 +6,7 @@ use Rattle.scan.specs.declared.failure.Failure.TheVariants.{Refused, Memory}
 use Rattle.scan.specs.declared.refusal.Refusal.{Refusal}
 use Rattle.scan.specs.declared.refusal.Refusal.TheVariants.{Count, NotRising, OutOfRange, SourceDistance, PanelDistance, SourceTooNear, ColumnBeyond, StepOutOfRange, DraftFull, NoView, StoreLength, BoxBounds}
 
--- The number that stands for the condition.
+-- The number of each refusal, by which it is known to users.
 abbrev pub number : Refusal → ℕ
 number (Count found least most) = 2
 number (NotRising edge before at) = 4
@@ -21,7 +21,7 @@ number (NoView view views) = 22
 number (StoreLength store found wanted) = 23
 number (BoxBounds axis lower upper cells) = 24
 
--- The number of the edge that is refused, 1 for the second of two distances, and 0 for all else.
+-- The place of each refusal: the number of the edge that is refused, 0 for D and 1 for F, and 0 for all else.
 abbrev pub place : Refusal → ℕ
 place (Count found least most) = 0
 place (NotRising edge before at) = edge
@@ -44,7 +44,7 @@ refusal_text refusal = codes "refused by " ++ decimal (number refusal) ++ codes 
 abbrev pub memory_text : List ℕ
 memory_text = codes "there is no memory"
 
--- What is printed where something was not made.
+-- What is printed where something was not made: the refusal, or that there is no memory.
 abbrev pub failure_text : Failure → List ℕ
 failure_text (Refused refusal) = refusal_text refusal
 failure_text Memory = memory_text

@@ -1,10 +1,10 @@
--- What a draft and a plan say of a scan.
+-- A scan, which is what a draft and a plan hold, and its numbers of cells.
 use Rattle.std.specs.Prelude.{ℕ, ◌*◌, List, [], ◌∷◌, ◌++◌, length, ℤ}
 use Rattle.scan.specs.Axes.{cells_of}
 use Rattle.scan.specs.declared.scan_axis.ScanAxis.{ScanAxis}
 use Rattle.scan.specs.declared.scan_axis.ScanAxis.TheVariants.{X, Y, Z, Column, Row}
 
--- A scan: the distances D and F from the source to the rotation axis and to the panel, the edges of the volume and of the panel, and the steps of the turn that it is viewed from.
+-- A scan: the distances D and F from the source to the rotation axis and to the panel, the edges of the volume along x, y and z and of the panel's columns and rows, and the step of each view.
 pub record Scan : Type 0 where
   pub source : ℤ
   pub panel : ℤ
@@ -20,7 +20,7 @@ abbrev pub unviewed : ℤ → ℤ → List ℤ → List ℤ → List ℤ → Lis
 unviewed source panel x y z column row =
     record { source = source; panel = panel; x = x; y = y; z = z; column = column; row = row; steps = [] }
 
--- A scan with more views, from steps of the turn.
+-- A scan with more views at its end, of these steps.
 abbrev pub with_views : Scan → List ℕ → Scan
 with_views scan steps =
     record {
@@ -34,11 +34,11 @@ with_views scan steps =
       steps = scan.steps ++ steps;
     }
 
--- A scan with one more view.
+-- A scan with one more view at its end, of this step.
 abbrev pub with_view : Scan → ℕ → Scan
 with_view scan step = with_views scan (step ∷ [])
 
--- The edges of one axis of a scan.
+-- The edges of one of the five axes of a scan.
 abbrev pub edges_along : Scan → ScanAxis → List ℤ
 edges_along scan X = scan.x
 edges_along scan Y = scan.y

@@ -1,4 +1,4 @@
--- What a call answers that may be refused, and what it leaves.
+-- What a call answers that may be refused, and what it leaves. A check is none where nothing is refused, and else the refusal.
 use Rattle.std.specs.List.{find, range_with_len}
 use Rattle.std.specs.Prelude.{ℕ, Option, ◌≡◌, Bool, if◌then◌else◌, Some, None, Ok, Err, Result}
 use Rattle.scan.specs.declared.failure.Failure.{Failure}
@@ -24,7 +24,7 @@ refusal_of Memory = None
 abbrev pub Outcome : {A : Type 0} → Option Refusal → (A → Type 0) → Result A Failure → Type 0
 Outcome check P answer = OutcomeBy refusal_of check P answer
 
--- A refusal where a condition holds.
+-- A check that refuses where a condition holds.
 abbrev pub refused_where : {E : Type 0} → Bool → E → Option E
 refused_where holds refusal = (if holds then Some refusal else None)
 
@@ -32,7 +32,7 @@ refused_where holds refusal = (if holds then Some refusal else None)
 abbrev pub first_where : (ℕ → Bool) → ℕ → Option ℕ
 first_where test n = find test (range_with_len 0 n)
 
--- What a call leaves of what it changes: the new, or the old where it is refused.
+-- What a call leaves of what it changes: the new, or the old where the check refuses.
 abbrev pub unless_refused : {A E : Type 0} → Option E → A → A → A
 unless_refused None new old = new
 unless_refused (Some refusal) new old = old

@@ -7,23 +7,23 @@ use Rattle.scan.specs.Axes.{cells_of, edge_of, low_of, high_of}
 use Rattle.scan.specs.Landing.{Landing, by_slabs, weight}
 use Rattle.scan.specs.Scans.{Scan}
 
--- The edges of the slabs.
+-- The edges of the slab axis.
 abbrev pub slab_edges : Scan → SlabAxis → List ℤ
 slab_edges scan along = by_slabs along scan.x scan.y
 
--- The edges of the other axis of the plane of rotation.
+-- The edges of the cross axis, the other one of x and y.
 abbrev pub cross_edges : Scan → SlabAxis → List ℤ
 cross_edges scan along = by_slabs along scan.y scan.x
 
--- Q of slab j, which is twice its middle with the sign that its axis gives it.
+-- Q of slab j: the sum of its two edges, negated where the slabs are the cells of x.
 abbrev pub slab_sum_of : Scan → SlabAxis → ℕ → ℤ
 slab_sum_of scan along j = slab_sum along (low_of (slab_edges scan along) j) (high_of (slab_edges scan along) j)
 
--- K of column k, the sum of its two edges: twice its middle.
+-- K of column k: the sum of its two edges, which is twice its middle.
 abbrev pub column_sum_of : Scan → ℕ → ℤ
 column_sum_of scan k = low_of scan.column k +ℤ high_of scan.column k
 
--- Where the edges of a scan land, by the slab axis and the a and b of a direction.
+-- Where the edges of a scan land from a direction, told by its slab axis, a and b.
 abbrev pub landing_of : Scan → SlabAxis → ℤ → ℤ → Landing
 landing_of scan along a b =
     record {
@@ -39,14 +39,14 @@ landing_of scan along a b =
       T = λ k m. row_edge scan.source scan.panel a b (column_sum_of scan k) (edge_of scan.row m);
     }
 
--- The step of a view.
+-- The step of view v.
 abbrev pub step_of : Scan → ℕ → ℕ
 step_of scan v = slice_index scan.steps v
 
--- Where the edges of a view land.
+-- Where the edges of view v land: from the direction of its step.
 unfoldable pub landing : Scan → ℕ → Landing
 landing scan v = landing_of scan (slab_axis (step_of scan v)) (main_of (step_of scan v)) (side_of (step_of scan v))
 
--- The weight of a voxel and a cell in a view.
+-- The weight in view v of the voxel at place x and the view's cell at place c.
 abbrev pub weight_of : Scan → ℕ → ℕ → ℕ → ℕ
 weight_of scan v x c = weight (landing scan v) x c
