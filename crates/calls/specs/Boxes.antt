@@ -1,4 +1,4 @@
--- Boxes of voxels.
+-- Boxes of voxels, by their bounds along x, y and z.
 use Rattle.std.specs.Prelude.{ℕ, ◌/◌, ◌%◌, Bool, ◌&&◌, nat_le, nat_lt}
 use Rattle.calls.specs.Systems.{System}
 use Rattle.calls.specs.declared.voxel_box.Bounds.{Bounds}

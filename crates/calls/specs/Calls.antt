@@ -1,4 +1,4 @@
--- What each of the six calls makes of the store that it changes.
+-- What each of the six calls makes of the store that it changes; forward and back are the projection and the backprojection of De Man and Basu (2004), by one and the same weight.
 use Rattle.std.specs.Prelude.{ℕ, ◌+◌, ◌-◌, ◌*◌, if◌then◌else◌, List}
 use Rattle.values.specs.Laws.{Ops}
 use Rattle.values.specs.Sums.{sum}
@@ -7,26 +7,26 @@ use Rattle.calls.specs.Systems.{System, voxels, places, in_view}
 use Rattle.calls.specs.Boxes.{in_box}
 use Rattle.calls.specs.declared.voxel_box.VoxelBox.{VoxelBox}
 
--- A store of cells in which each cell of view v becomes what `change` says of its place and its value, and the others stay.
+-- A store of cells in which each cell of view v becomes what `change` makes of its place and its value, and the others stay.
 abbrev pub in_cells : {V : Type 0} → Ops V → System → ℕ → (ℕ → V → V) → List V → List V
 in_cells o s v change store = built (places s) (λ i. if in_view s v i then change i (at o store i) else at o store i)
 
--- Forward: each working cell of the view gains f times the sum over all voxels of the multiple of the value by the weight.
+-- Forward: each working cell of view v gains f times the sum over all voxels of the multiple of the voxel's value by the weight.
 unfoldable pub forward : {V : Type 0} → Ops V → System → ℕ → V → List V → List V → List V
 forward o s v f volume working =
     in_cells o s v (λ i cell. o.plus cell (o.times f (sum o (voxels s) (λ x. o.multiple (at o volume x) (s.weight v x (i - v * s.cells)))))) working
 
--- Back: each voxel gains f times the sum over the view's working cells of the multiple of the value by the weight.
+-- Back: each voxel gains f times the sum over the working cells of view v of the multiple of the cell's value by the weight.
 unfoldable pub back : {V : Type 0} → Ops V → System → ℕ → V → List V → List V → List V
 back o s v f working volume =
     built (voxels s) (λ x.
     o.plus (at o volume x) (o.times f (sum o s.cells (λ c. o.multiple (at o working (v * s.cells + c)) (s.weight v x c)))))
 
--- Take, from the measured to the working store, and give, from the working to the measured: each cell of the view gains f times the same cell of the other store.
+-- Take, from the measured to the working store, and give, from the working to the measured: each cell of view v gains f times the same cell of the other store.
 unfoldable pub transfer : {V : Type 0} → Ops V → System → ℕ → V → List V → List V → List V
 transfer o s v f from to = in_cells o s v (λ i cell. o.plus cell (o.times f (at o from i))) to
 
--- Scale: each working cell of the view becomes f times itself.
+-- Scale: each working cell of view v becomes f times itself.
 unfoldable pub scale : {V : Type 0} → Ops V → System → ℕ → V → List V → List V
 scale o s v f working = in_cells o s v (λ i cell. o.times f cell) working
 

@@ -1,4 +1,4 @@
--- What holds of every row of calls.
+-- What holds of every row of calls: the mirrored row is the transpose, and the outcome is linear in the start.
 use Rattle.std.specs.Prelude.{◌≡◌, List}
 use Rattle.values.specs.Laws.{Ops}
 use Rattle.calls.specs.Stores.{dot, plus_of, times_of, Stores, three}

@@ -8,13 +8,13 @@ use Rattle.calls.specs.Calls.{forward, back, transfer, scale, trim}
 use Rattle.calls.specs.declared.call.Call.{Call}
 use Rattle.calls.specs.declared.call.Call.TheVariants.{Forward, Back, Take, Give, Scale, Trim}
 
--- Stores of the system's sizes.
+-- Stores of the lengths that the numbers of a system ask for.
 pub record Fits {V : Type 0} (s : System) (stores : Stores V) : Type 0 where
   pub volume : length stores.volume ≡ voxels s
   pub measured : length stores.measured ≡ places s
   pub working : length stores.working ≡ places s
 
--- Whether a call is accepted: there is such a view, or the box fits.
+-- Whether a call is accepted: there is a view of its number, or its box fits.
 abbrev pub accepted : {V : Type 0} → System → Call V → Bool
 accepted s (Forward view factor) = is_view s view
 accepted s (Back view factor) = is_view s view
@@ -23,7 +23,7 @@ accepted s (Give view factor) = is_view s view
 accepted s (Scale view factor) = is_view s view
 accepted s (Trim within) = box_fits s within
 
--- What an accepted call makes of the three stores: it changes one of them.
+-- What an accepted call makes of the three stores, of which it changes one.
 abbrev pub made_by : {V : Type 0} → Ops V → System → Call V → Stores V → Stores V
 made_by o s (Forward view factor) r = three r.volume r.measured (forward o s view factor r.volume r.working)
 made_by o s (Back view factor) r = three (back o s view factor r.working r.volume) r.measured r.working
@@ -32,11 +32,11 @@ made_by o s (Give view factor) r = three r.volume (transfer o s view factor r.wo
 made_by o s (Scale view factor) r = three r.volume r.measured (scale o s view factor r.working)
 made_by o s (Trim within) r = three (trim o s within r.volume) r.measured r.working
 
--- What the stores are after a call; one that is refused alters nothing.
+-- What the three stores are after a call; one that is refused alters nothing.
 abbrev pub after_call : {V : Type 0} → Ops V → System → Call V → Stores V → Stores V
 after_call o s call stores = if accepted s call then made_by o s call stores else stores
 
--- The outcome of a row of calls from a start: what all three stores are after the last.
+-- The outcome of a row of calls from a start: what the three stores are after the last call.
 unfoldable pub outcome : {V : Type 0} → Ops V → System → List (Call V) → Stores V → Stores V
 outcome o s [] start = start
 outcome o s (call ∷ row) start = outcome o s row (after_call o s call start)

@@ -1,4 +1,4 @@
--- Stores of values, by place, and the three stores.
+-- Stores of values by place, counted from 0, and the three stores.
 use Rattle.std.specs.Prelude.{ℕ, List, map, slice_index_or}
 use Rattle.std.specs.List.{range_with_len}
 use Rattle.values.specs.Laws.{Ops}
@@ -8,7 +8,7 @@ use Rattle.values.specs.Sums.{sum}
 abbrev pub built : {V : Type 0} → ℕ → (ℕ → V) → List V
 built n f = map f (range_with_len 0 n)
 
--- What stands at a place of a store; past its end, zero.
+-- What stands at place i of a store; past its end, zero.
 abbrev pub at : {V : Type 0} → Ops V → List V → ℕ → V
 at o xs i = slice_index_or xs i o.zero
 
@@ -24,12 +24,12 @@ plus_of o n xs ys = built n (λ i. o.plus (at o xs i) (at o ys i))
 abbrev pub times_of : {V : Type 0} → Ops V → ℕ → V → List V → List V
 times_of o n c xs = built n (λ i. o.times c (at o xs i))
 
--- The three stores: the volume, the measured and the working store.
+-- A set of stores: the volume, the measured and the working store.
 pub record Stores (V : Type 0) : Type 0 where
   pub volume : List V
   pub measured : List V
   pub working : List V
 
--- Three lists of values as the three stores.
+-- The set of stores of three lists of values.
 abbrev pub three : {V : Type 0} → List V → List V → List V → Stores V
 three volume measured working = record { volume = volume; measured = measured; working = working }
