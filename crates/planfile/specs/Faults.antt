@@ -8,19 +8,19 @@ use Rattle.planfile.specs.declared.fault.Fault.TheVariants.{Incomplete, Trailing
 use Rattle.planfile.specs.declared.read_failure.ReadFailure.{ReadFailure}
 use Rattle.planfile.specs.declared.read_failure.ReadFailure.TheVariants as failures
 
--- The number that stands for the condition.
+-- The number of each fault, by which it is known to users.
 abbrev pub number : Fault → ℕ
 number (Incomplete p) = 1
 number (Trailing p) = 3
 number (Refused placed) = refusal_number placed.refusal
 
--- The byte at which what is refused begins.
+-- The place of each fault: the byte at which what is refused begins.
 abbrev pub place : Fault → ℕ
 place (Incomplete p) = p
 place (Trailing p) = p
 place (Refused placed) = placed.place
 
--- A refusal of what begins at place p.
+-- The fault of a refusal of what begins at place p.
 abbrev pub refused_at : ℕ → Refusal → Fault
 refused_at p refusal = Refused (record { refusal = refusal; place = p })
 
@@ -32,7 +32,7 @@ told_text n p = codes "refused " ++ decimal n ++ codes " at " ++ decimal p
 abbrev pub fault_text : Fault → List ℕ
 fault_text fault = told_text (number fault) (place fault)
 
--- What is printed where a plan was not read.
+-- What is printed where a plan was not read: the fault, or that there is no memory.
 abbrev pub failure_text : ReadFailure → List ℕ
 failure_text (failures.Refused fault) = fault_text fault
 failure_text failures.Memory = memory_text

@@ -1,4 +1,4 @@
--- What is checked of the bytes of a plan and of its values, in which order, and the fault that follows with its place.
+-- What is checked of the bytes of a plan and of its values, in which order, and the fault that follows with its place: of checks joined by `option_or` the first that refuses is the answer.
 use Rattle.std.specs.Option.{option_or, option_map}
 use Rattle.std.specs.Prelude.{ℕ, ◌+◌, ◌*◌, not, List, length, ℤ, Option, nat_lt, ◌==◌}
 use Rattle.scan.specs.Verdicts.{refused_where, first_where}
@@ -22,13 +22,13 @@ whole_check bytes p = refused_where (nat_lt (length bytes) (p + 4)) (Incomplete 
 abbrev pub numbers_check : List ℕ → ℕ → ℕ → Option Fault
 numbers_check bytes p n = option_map (λ i. Incomplete (p + 4 * i)) (first_where (λ i. nat_lt (length bytes) (p + 4 * i + 4)) n)
 
--- Of every section come 1 for its count, 2 for a count outside its limits, and 1 for its numbers.
+-- The section at place p, whose count has these limits, checks 1 for its count, 2 for a count outside the limits, and 1 for its numbers.
 unfoldable pub section_check : List ℕ → ℕ → ℕ → ℕ → Option Fault
 section_check bytes p least most =
     option_or (whole_check bytes p)
     (option_or (option_map (refused_at p) (count_check (count_at bytes p) least most)) (numbers_check bytes (p + 4) (count_at bytes p)))
 
--- A refusal at the edge or the distance that it names, of the section that begins at place p.
+-- The fault of a refusal, at the edge or the distance that it names, of the section that begins at place p.
 abbrev pub refused_in : ℕ → Refusal → Fault
 refused_in p refusal = refused_at (place_of p (edge_number refusal)) refusal
 
@@ -36,12 +36,12 @@ refused_in p refusal = refused_at (place_of p (edge_number refusal)) refusal
 abbrev pub entry : List ℕ → ℕ → ℕ → ℤ
 entry bytes p i = edge_or_zero (section_at bytes p) i
 
--- The section of the distances has two, and checks 6 for D and 6 for F.
+-- The section of the distances has two numbers, and then checks 6 for D and 6 for F.
 unfoldable pub distances_section : List ℕ → ℕ → Option Fault
 distances_section bytes p =
     option_or (section_check bytes p 2 2) (option_map (refused_in p) (distances_check (entry bytes p 0) (entry bytes p 1)))
 
--- The section of an axis has 2 to 513 edges, and checks 5 and then 4.
+-- The section of an axis has 2 to 513 edges, and then checks 5 and then 4.
 unfoldable pub axis_section : List ℕ → ℕ → Option Fault
 axis_section bytes p = option_or (section_check bytes p 2 513) (option_map (refused_in p) (edges_check (section_at bytes p)))
 
@@ -49,19 +49,19 @@ axis_section bytes p = option_or (section_check bytes p 2 513) (option_map (refu
 abbrev pub first_no_step : List ℤ → Option ℕ
 first_no_step zs = first_where (λ i. no_step (edge_or_zero zs i)) (length zs)
 
--- The section of the steps has 0 to 1,024, and checks 9.
+-- The section of the steps has 0 to 1,024, and then checks 9 for the first that is no step.
 unfoldable pub steps_section : List ℕ → ℕ → Option Fault
 steps_section bytes p =
     option_or (section_check bytes p 0 1024)
     (option_map (λ i. refused_at (place_of p i) (StepOutOfRange (entry bytes p i))) (first_no_step (section_at bytes p)))
 
--- Of the distances and axes together come 7, at D, and 8, at an edge of the columns.
+-- The distances and axes together check 7, at D, and then 8, at the first such edge of the columns.
 unfoldable pub clearance : List ℕ → Option Fault
 clearance bytes =
     option_or (option_map (refused_in (start bytes 0)) (source_check (entry bytes (start bytes 0) 0) (section_at bytes (start bytes 1)) (section_at bytes (start bytes 2))))
     (option_map (refused_in (start bytes 4)) (columns_check (entry bytes (start bytes 0) 1) (section_at bytes (start bytes 4))))
 
--- The first six sections, in their order: distances, x, y, z, columns and rows.
+-- The first six sections are checked in their order: the distances, x, y, z, the columns and the rows.
 unfoldable pub axes_check : List ℕ → Option Fault
 axes_check bytes =
     option_or (distances_section bytes (start bytes 0))
@@ -70,16 +70,16 @@ axes_check bytes =
     (option_or (axis_section bytes (start bytes 3))
     (option_or (axis_section bytes (start bytes 4)) (axis_section bytes (start bytes 5))))))
 
--- Of a plan's bytes the distances and the axes are checked one by one, then together, and then the steps.
+-- A plan's bytes: the distances and the axes are checked one by one, then together, and then the steps.
 unfoldable pub plan_check : List ℕ → Option Fault
 plan_check bytes = option_or (axes_check bytes) (option_or (clearance bytes) (steps_section bytes (start bytes 6)))
 
--- Of the values of n voxels, from place p on, come 1 for their count, 2 for one other than n, 1 for the values, and 3 for bytes that follow.
+-- The values of n voxels, whose section begins at place p, check 1 for their count, 2 for a count other than n, 1 for the values, and 3 for bytes that follow.
 abbrev pub voxels_check : List ℕ → ℕ → ℕ → Option Fault
 voxels_check bytes p n =
     option_or (section_check bytes p n n) (refused_where (nat_lt (end_of bytes p) (length bytes)) (Trailing (end_of bytes p)))
 
--- Where they are read into a store, that is checked, and then 23 for the store's length.
+-- Reading them into a store checks the same, and then 23 for a store of another length than n.
 unfoldable pub values_check : List ℕ → ℕ → ℕ → ℕ → Option Fault
 values_check bytes p n store =
     option_or (voxels_check bytes p n) (refused_where (not (store == n)) (refused_at 0 (StoreLength Volume store n)))

@@ -1,4 +1,4 @@
--- What the reader of a plan keeps of the sections that it has read.
+-- What the reader of a plan keeps of the sections that it has read: for readers of the code. The calls' promises do not rest on it.
 use Rattle.std.specs.Prelude.{◌≡◌, ℕ, List, ℤ}
 use Rattle.planfile.specs.Numbers.{numbers_in}
 use Rattle.planfile.specs.Sections.{section_at, start}

@@ -8,7 +8,7 @@ unfoldable pub count_at : List ℕ → ℕ → ℕ
 count_at bytes p =
     slice_index bytes p + 256 * slice_index bytes (p + 1) + 65536 * slice_index bytes (p + 2) + 16777216 * slice_index bytes (p + 3)
 
--- The same number taken as signed, in two's complement.
+-- The number at place p taken as signed, in two's complement.
 abbrev pub number_at : List ℕ → ℕ → ℤ
 number_at bytes p = cast_signed w32 (count_at bytes p)
 

@@ -1,4 +1,4 @@
--- The scan that bytes hold, and the values.
+-- The scan that the bytes of a plan hold, and the values of its voxels.
 use Rattle.std.specs.Prelude.{ℕ, List, map, unsigned_abs}
 use Rattle.scan.specs.Scans.{Scan}
 use Rattle.planfile.specs.Sections.{section_at, start}
@@ -6,7 +6,7 @@ use Rattle.planfile.specs.FileChecks.{entry}
 use Rattle.values.specs.Counts.{count_of}
 use Rattle.values.specs.declared.count.Count.{Count}
 
--- The scan that the bytes of a plan hold: section by section, D and F, the edges of x, y, z, the columns and the rows, and the steps.
+-- The scan that bytes hold, section by section: D and F, the edges of x, y, z, the columns and the rows, and the steps.
 unfoldable pub scan_in : List ℕ → Scan
 scan_in bytes =
     record {

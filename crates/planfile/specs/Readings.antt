@@ -10,6 +10,6 @@ abbrev pub fault_of : ReadFailure → Option Fault
 fault_of (Refused fault) = Some fault
 fault_of Memory = None
 
--- A value of which P holds where the check finds nothing, and else the fault that it finds; or that there is no memory, and only where the check finds nothing.
+-- What reading answers: a value of which P holds where the check finds nothing, and else the fault that it finds; or that there is no memory, and only where the check finds nothing.
 abbrev pub ReadOutcome : {A : Type 0} → Option Fault → (A → Type 0) → Result A ReadFailure → Type 0
 ReadOutcome check P answer = OutcomeBy fault_of check P answer

@@ -1,8 +1,8 @@
--- Sections: a count, and then as many numbers. A file has eight: the distances, the edges of x, y, z, the columns and the rows, the steps, and the values of the voxels.
+-- Sections: a count, and then as many numbers. A file has eight, of which the first seven are the plan: the distances, the edges of x, y, z, the columns and the rows, the steps, and the values of the voxels.
 use Rattle.std.specs.Prelude.{ℕ, zero, suc, ◌+◌, ◌*◌, List, ℤ}
 use Rattle.planfile.specs.Numbers.{count_at, numbers_from}
 
--- The place of number i of a section whose count stands at place p.
+-- The place of number i, counted from 0, of the section that begins at place p, with its count.
 abbrev pub place_of : ℕ → ℕ → ℕ
 place_of p i = p + 4 + 4 * i
 
@@ -10,11 +10,11 @@ place_of p i = p + 4 + 4 * i
 unfoldable pub section_at : List ℕ → ℕ → List ℤ
 section_at bytes p = numbers_from bytes (p + 4) (count_at bytes p)
 
--- Where the section that begins at place p ends.
+-- Where the section that begins at place p ends: the place after its last number.
 unfoldable pub end_of : List ℕ → ℕ → ℕ
 end_of bytes p = place_of p (count_at bytes p)
 
--- Where the first k sections end, and the next begins: none end at place 0.
+-- Where section k, counted from 0, begins: section 0 at place 0, and each other where the one before it ends.
 unfoldable pub start : List ℕ → ℕ → ℕ
 start bytes zero = 0
 start bytes (suc k) = end_of bytes (start bytes k)

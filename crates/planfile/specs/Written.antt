@@ -8,11 +8,11 @@ use Rattle.scan.specs.Scans.{Scan}
 abbrev pub number_bytes : ℤ → List ℕ
 number_bytes z = to_le_bytes w32 (cast_unsigned w32 z)
 
--- A section: how many numbers it has, and then each of them.
+-- A section as bytes: how many numbers it has, and then each of them.
 abbrev pub section_bytes : List ℤ → List ℕ
 section_bytes zs = to_le_bytes w32 (length zs) ++ flat_map number_bytes zs
 
--- A plan: the sections of its distances, of the edges of x, y, z, the columns and the rows, and of its steps.
+-- A plan as bytes: the sections of its distances, of the edges of x, y, z, the columns and the rows, and of its steps.
 unfoldable pub written : Scan → List ℕ
 written scan =
     section_bytes (scan.source ∷ scan.panel ∷ [])
