@@ -1,4 +1,4 @@
--- When the calls on a sealed plan refuse.
+-- The numbers and weights by which the calls go on a plan, and when they refuse: of checks joined by `option_or` the first that refuses is the answer.
 use Rattle.std.specs.Prelude.{ℕ, not, length, Option, ◌==◌}
 use Rattle.std.specs.Option.{option_or}
 use Rattle.scan.specs.Axes.{cells_of}
@@ -19,7 +19,7 @@ use Rattle.calls.specs.declared.call.Call.TheVariants.{Forward, Back, Take, Give
 use Rattle.calls.specs.declared.voxel_box.Bounds.{Bounds}
 use Rattle.calls.specs.declared.voxel_box.VoxelBox.{VoxelBox}
 
--- The numbers and weights of a scan.
+-- A scan as the calls know it: its numbers of views, cells and voxels, and its weights.
 abbrev pub system_of : Scan → System
 system_of scan =
     record {
@@ -66,7 +66,7 @@ scale_check s view working = option_or (view_number_check s view) (store_check W
 unfoldable pub trim_check : System → VoxelBox → ℕ → Option Refusal
 trim_check s within volume = option_or (store_check Volume volume (voxels s)) (box_check s within)
 
--- What refuses one call of a row, as it would alone.
+-- What refuses one call of a row: its own check, as if it were called alone.
 abbrev pub call_check : {V : Type 0} → System → Call V → Stores V → Option Refusal
 call_check s (Forward view factor) r = sweep_check s view (length r.volume) (length r.working)
 call_check s (Back view factor) r = sweep_check s view (length r.volume) (length r.working)

@@ -18,19 +18,19 @@ use Rattle.calls.specs.declared.call.Call.{Call}
 use Rattle.calls.specs.declared.call.Call.TheVariants.{Forward, Back}
 use Rattle.sweeps.specs.Checks.{system_of}
 
--- A whole number below zero.
+-- The negative of a whole number.
 abbrev minus : ℕ → ℤ
 minus n = neg_ℤ (pos n)
 
--- The edges of x and of y.
+-- The edges of x and of y: -100, 0, 100.
 abbrev pub sides : List ℤ
 sides = minus 100 ∷ pos 0 ∷ pos 100 ∷ []
 
--- The edges of the columns, up to a last one.
+-- The edges of the columns: -200, 0 and a last one.
 abbrev pub columns_to : ℤ → List ℤ
 columns_to last = minus 200 ∷ pos 0 ∷ last ∷ []
 
--- The worked plan, seen from some steps.
+-- The worked plan, with views at some steps.
 abbrev pub worked : List ℕ → Scan
 worked steps =
     record {
@@ -44,11 +44,11 @@ worked steps =
       steps = steps;
     }
 
--- The worked plan seen from one step.
+-- Where the edges of the worked plan land at one step.
 abbrev pub from : ℕ → Landing
 from step = landing (worked (step ∷ [])) 0
 
--- The same as a system of weights.
+-- The worked plan with one view, at a step, as the calls know it.
 abbrev pub at_step : ℕ → System
 at_step step = system_of (worked (step ∷ []))
 
@@ -72,7 +72,7 @@ there_and_back = Forward 0 (counted 1) ∷ Back 0 (counted 1) ∷ []
 abbrev pub row_start : Stores Count
 row_start = three ones (counts (0 ∷ 0 ∷ [])) (counts (0 ∷ 0 ∷ []))
 
--- Its test stores: working cells 1 and 0, all else 0.
+-- The test stores of that row: working cells 1 and 0, all else 0.
 abbrev pub row_test : Stores Count
 row_test = three zeros (counts (0 ∷ 0 ∷ [])) (counts (1 ∷ 0 ∷ []))
 
@@ -82,7 +82,7 @@ worked_cells =
     let s = system_of (worked (0 ∷ 16 ∷ [])) in
     map shown (forward count_ops s 1 (counted 1) ones (forward count_ops s 0 (counted 1) ones zeros))
 
--- What the definitions yield.
+-- What the definitions yield for the worked plan.
 pub record Figures : Type 0 where
   -- step 0, the slab from 0 to 100: U, and W
   pub near_U : map ((from 0).U 1) (0 ∷ 1 ∷ 2 ∷ []) ≡ minus 106 ∷ pos 0 ∷ pos 105 ∷ []

@@ -1,4 +1,4 @@
--- The shadow of a voxel on the panel, and the overlaps that add up to it.
+-- The shadows of a voxel, across the slab axis and in height, and the overlaps that add up to them.
 use Rattle.std.specs.Prelude.{◌≡◌, ℕ, ◌+◌, ◌<◌, length}
 use Rattle.values.specs.Naturals.{naturals}
 use Rattle.values.specs.Sums.{sum}
@@ -12,7 +12,7 @@ abbrev pub cross_shadow_in_panel : Landing → ℕ → ℕ
 cross_shadow_in_panel L x =
     overlap (L.U (slab_of L x) (cross_of L x)) (L.U (slab_of L x) (cross_of L x + 1)) (L.S 0) (L.S L.columns)
 
--- Its height shadow inside column k: the overlap of its W stretch with the stretch from the column's first T edge to its last.
+-- The height shadow of the voxel at place x inside column k: the overlap of its W stretch with the stretch from the column's first T edge to its last.
 abbrev pub height_shadow_in_column : Landing → ℕ → ℕ → ℕ
 height_shadow_in_column L x k =
     overlap (L.W (slab_of L x) (height_of L x)) (L.W (slab_of L x) (height_of L x + 1)) (L.T k 0) (L.T k L.rows)
@@ -22,6 +22,6 @@ pub record AddsUp (L : Landing) (x : ℕ) : Type 0 where
   pub across : sum naturals L.columns (λ k. cross_overlap L (slab_of L x) (cross_of L x) k) ≡ cross_shadow_in_panel L x
   pub down : (k : ℕ) → k < L.columns → sum naturals L.rows (λ m. height_overlap L (slab_of L x) (height_of L x) k m) ≡ height_shadow_in_column L x k
 
--- So it is for every voxel in every view.
+-- The overlaps add up to the shadows for every voxel in every view of a scan.
 abbrev pub Conserved : Scan → Type 0
 Conserved scan = (view x : ℕ) → view < length scan.steps → x < voxels (landing scan view) → AddsUp (landing scan view) x

@@ -1,4 +1,4 @@
--- The tally of a store of Reach.
+-- The tally of a store of Reach values.
 use Rattle.std.specs.Prelude.{ℕ, List, count_by}
 use Rattle.values.specs.declared.reach.Reach.{Reach}
 
