@@ -1,5 +1,5 @@
 pub mod EveryView
 pub mod Refusals
 pub mod Shadows
-pub mod Texts
 pub mod Answers
+pub mod Texts

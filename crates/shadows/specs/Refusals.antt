@@ -9,12 +9,12 @@ use Rattle.shadows.specs.declared.refusal.Refusal.TheVariants.{File, TooLarge}
 use Rattle.shadows.specs.declared.failure.Failure.{Failure}
 use Rattle.shadows.specs.declared.failure.Failure.TheVariants.{Refused, Memory}
 
--- The number that stands for the condition.
+-- The number of each refusal, by which it is known to users.
 abbrev pub number : Refusal → ℕ
 number (File fault) = fault_number fault
 number (TooLarge voxels cells p) = 10
 
--- The byte at which what is refused begins.
+-- The place of each refusal: the byte at which what is refused begins.
 abbrev pub place : Refusal → ℕ
 place (File fault) = fault_place fault
 place (TooLarge voxels cells p) = p
@@ -28,7 +28,7 @@ of_read reading.Memory = Memory
 abbrev pub refusal_text : Refusal → List ℕ
 refusal_text refusal = told_text (number refusal) (place refusal)
 
--- What is printed where a shadow was not made.
+-- What is printed where a shadow was not made: the refusal, or that there is no memory.
 abbrev pub failure_text : Failure → List ℕ
 failure_text (Refused refusal) = refusal_text refusal
 failure_text Memory = memory_text

@@ -1,4 +1,4 @@
--- The shadow of a file.
+-- The shadow of a file, which is what the panel sees of its voxels, and when a file is refused.
 use Rattle.std.specs.Option.{option_or, option_map}
 use Rattle.std.specs.Prelude.{◌≡◌, ℕ, ◌||◌, List, length, pos, nat_lt, true, vec_items, Option, Some, None, Result, Ok, Err}
 use Rattle.values.specs.Counts.{count_ops}
@@ -22,11 +22,11 @@ use Rattle.shadows.specs.declared.failure.Failure.{Failure}
 use Rattle.shadows.specs.declared.failure.Failure.TheVariants.{Refused, Memory}
 use Rattle.shadows.specs.declared.shadow.Shadow.{Shadow}
 
--- 10, for a plan of more than 4,096 voxels, or of more than 4,096 cells over all its views; p is where its voxels would begin.
+-- 10 for a plan of more than 4,096 voxels, or of more than 4,096 cells over all its views, at the place p at which the section of the voxels begins.
 abbrev pub size_check : Scan → ℕ → Option Refusal
 size_check scan p = refused_where (nat_lt 4096 (voxels_of scan) || nat_lt 4096 (places_of scan)) (TooLarge (voxels_of scan) (places_of scan) p)
 
--- Of a file the plan is checked, then come 10, and the section of the voxels, which follows the plan's seven.
+-- A file: the plan is checked, then 10, and then the section of the voxels, which follows the plan's seven.
 unfoldable pub shadow_check : List ℕ → Option Refusal
 shadow_check bytes =
     option_or (option_map File (plan_check bytes))
@@ -40,7 +40,7 @@ cells_seen scan volume = projected count_ops (system_of scan) (count_of (pos 1))
 abbrev pub voxels_hit : Scan → ℕ
 voxels_hit scan = tallied (backprojected reach_ops (system_of scan) (reached true) (built (places (system_of scan)) (λ _. reached true)))
 
--- The shadow of a scan whose voxels have these values: how many views, rows and columns there are, the cells of all views, and how many voxels are hit.
+-- The shadow of a scan whose voxels have these values: its numbers of views, rows and columns, the cells of all views, and how many voxels are hit.
 pub record ShadowOf (scan : Scan) (volume : List Count) (shadow : Shadow) : Type 0 where
   pub views : shadow.views ≡ length scan.steps
   pub rows : shadow.rows ≡ cells_of scan.row
