@@ -3,10 +3,10 @@ use Rattle.std.specs.Prelude.{◌≡◌, refl, Bool, ◌||◌, ℕ, zero, suc}
 use Rattle.std.proofs.Common.{ap, sym, add-one}
 use Rattle.std.proofs.Math.Bool.{or_comm, or_assoc, or-false, or_self, and_comm, and_assoc, and-or_distrib_left, and-false}
 use Rattle.values.specs.Laws.{Laws}
-use Rattle.values.specs.Reaches.{reached, unless_none, reach_ops}
+use Rattle.values.specs.Reaches.{reached, multiple_of, reach_ops}
 
 -- the multiple by one more is the multiple, or the value
-one_more : (n : ℕ) (b : Bool) → unless_none (suc n) b ≡ (unless_none n b || b)
+one_more : (n : ℕ) (b : Bool) → multiple_of (suc n) b ≡ (multiple_of n b || b)
 one_more zero b = refl
 one_more (suc n) b = sym (or_self b)
 

@@ -8,9 +8,9 @@ abbrev pub reached : Bool → Reach
 reached b = record { yes = b }
 
 -- The multiple of yes or no by a whole number: no by 0, and the same by any other.
-abbrev pub unless_none : ℕ → Bool → Bool
-unless_none zero b = false
-unless_none (suc n) b = b
+abbrev pub multiple_of : ℕ → Bool → Bool
+multiple_of zero b = false
+multiple_of (suc n) b = b
 
 -- Zero is no, the sum is "either", the product is "both", and the multiple is as above.
 abbrev pub reach_ops : Ops Reach
@@ -18,5 +18,5 @@ reach_ops = record {
   zero = reached false;
   plus = λ x y. reached (x.yes || y.yes);
   times = λ x y. reached (x.yes && y.yes);
-  multiple = λ x n. reached (unless_none n x.yes);
+  multiple = λ x n. reached (multiple_of n x.yes);
 }
