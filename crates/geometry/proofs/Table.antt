@@ -4,7 +4,7 @@ use Rattle.std.proofs.lemmas.Bool.{leb-true, le-leb, lt-leb, and_parts}
 use Rattle.std.proofs.lemmas.Bool.Decides.{Decides-below_and}
 use Rattle.geometry.specs.declared.direction.SlabAxis.{SlabAxis}
 use Rattle.geometry.specs.declared.direction.SlabAxis.TheVariants.{X, Y}
-use Rattle.geometry.specs.Turn.{sine, sin_of, cos_of, Round, slabs_by, main_part, side_part, slab_axis, main_of, side_of}
+use Rattle.geometry.specs.Turn.{sine, sin_of, cos_of, CircleRule, slabs_by, main_part, side_part, slab_axis, main_of, side_of}
 use Rattle.geometry.specs.Steep.{Steep}
 
 -- the test passes at each number below n
@@ -18,7 +18,7 @@ from_all p n e = (Decides-below_and p (λ k. p k ≡ true) (all_below p) (λ k. 
 abbrev round_at : ℕ → Bool
 round_at q = nat_le (nat_abs (cos_of q *ℤ cos_of q +ℤ sin_of q *ℤ sin_of q -ℤ pos (2 ^ 28))) 17126
 
-all_round : (q : ℕ) → q < 64 → Round (sin_of q) (cos_of q)
+all_round : (q : ℕ) → q < 64 → CircleRule (sin_of q) (cos_of q)
 unfolding sine
 all_round q h = leb-true _ 17126 (from_all round_at 64 refl q h)
 
@@ -33,8 +33,8 @@ all_steep q h =
     record { least = leb-true 11585 _ t.0; most = leb-true _ 16384 u.0; side = leb-true _ _ u.1 }
 
 -- a sine and a cosine that are the step's lie near the circle
-pub round_at_each : (q : ℕ) (s c : ℤ) → q < 64 → s ≡ sin_of q → c ≡ cos_of q → Round s c
-round_at_each q s c h e f = subst (λ x. Round x c) (sym e) (subst (λ y. Round (sin_of q) y) (sym f) (all_round q h))
+pub round_at_each : (q : ℕ) (s c : ℤ) → q < 64 → s ≡ sin_of q → c ≡ cos_of q → CircleRule s c
+round_at_each q s c h e f = subst (λ x. CircleRule x c) (sym e) (subst (λ y. CircleRule (sin_of q) y) (sym f) (all_round q h))
 
 -- the slab axis, a and b are those of the step q
 pub record Points (q : ℕ) (slabs : SlabAxis) (a b : ℤ) : Type 0 where

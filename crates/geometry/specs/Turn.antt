@@ -29,8 +29,8 @@ abbrev pub cos_of : ℕ → ℤ
 cos_of q = in_quarter (q / 16) (sine (16 - q % 16)) (neg_ℤ (sine (q % 16))) (neg_ℤ (sine (16 - q % 16))) (sine (q % 16))
 
 -- The circle rule: c² + s² differs from 2^28 by at most 17,126.
-abbrev pub Round : ℤ → ℤ → Type 0
-Round s c = unsigned_abs (c *ℤ c +ℤ s *ℤ s -ℤ pos (2 ^ 28)) ≤ 17126
+abbrev pub CircleRule : ℤ → ℤ → Type 0
+CircleRule s c = unsigned_abs (c *ℤ c +ℤ s *ℤ s -ℤ pos (2 ^ 28)) ≤ 17126
 
 -- The slabs are the cells of the axis along which the central ray runs more: of y where |s| <= |c|, so at a tie too, and else of x.
 abbrev pub slabs_by : ℤ → ℤ → SlabAxis

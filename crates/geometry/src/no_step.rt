@@ -1,6 +1,6 @@
 // Which numbers have a step.
 ghost use Rattle.std.specs.Prelude.{Some};
-ghost use Rattle.geometry.specs.Steps.{Numbered, no_step_text};
+ghost use Rattle.geometry.specs.Steps.{StepOf, no_step_text};
 
 use crate::step::{LAST_STEP, Step};
 use std::error::Error;
@@ -15,7 +15,7 @@ pub struct NoStep {
 impl TryFrom<i32> for Step {
     type Error = NoStep;
 
-    ghost try_from_gives = { Numbered };
+    ghost try_from_gives = { StepOf };
 
     fn try_from(number: i32) -> Result<Step, NoStep> {
         if (0..=LAST_STEP).contains(&number) {

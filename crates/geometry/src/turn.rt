@@ -1,6 +1,6 @@
 // The turn table: the direction of a view from its step.
 ghost use Rattle.std.specs.Prelude.{◌≡◌, ◌<◌, ◌≤◌, unsigned_abs};
-ghost use Rattle.geometry.specs.Turn.{sine, sin_of, cos_of, Round, slab_axis, main_of, side_of};
+ghost use Rattle.geometry.specs.Turn.{sine, sin_of, cos_of, CircleRule, slab_axis, main_of, side_of};
 
 use crate::direction::{Direction, Heading, SlabAxis};
 use crate::step::Step;
@@ -27,7 +27,7 @@ fn sine_of(r: usize) -> i64
 pub fn heading(step: Step) -> Heading
     ensures sin { result.s ≡ sin_of step.number }
     ensures cos { result.c ≡ cos_of step.number }
-    ensures round { Round result.s result.c }
+    ensures round { CircleRule result.s result.c }
 {
     let up = sine_of(step.number % QUARTER);
     let down = sine_of(QUARTER - step.number % QUARTER);
