@@ -18,7 +18,7 @@ use Rattle.scan.specs.Landing.{Landing, Sound, CellLimits, weight, cross_overlap
 use Rattle.scan.specs.Scans.{Scan}
 use Rattle.scan.specs.Limits.{Fitted}
 use Rattle.scan.specs.Views.{slab_edges, cross_edges, slab_sum_of, column_sum_of, landing_of, landing, step_of}
-use Rattle.scan.specs.Lands.{Divides, Lands}
+use Rattle.scan.specs.Lands.{SafeDivisions, Lands}
 use Rattle.scan.specs.Numbered.{edge_within, edge_rises}
 use Rattle.geometry.proofs.Conditions.{Placed, Reached}
 use Rattle.geometry.specs.Steep.{Steep}
@@ -99,7 +99,7 @@ module _ (scan : Scan) (fitted : Fitted scan) (along : SlabAxis) (a b : ℤ) (st
   positive : pos 0 <ℤ scan.source
   positive = (placed 0).some
 
-  pub divides : Divides scan along a b
+  pub divides : SafeDivisions scan along a b
   divides =
       let far : unsigned_abs scan.source ≤ 2 ^ 24 = (placed 0).most in
       record {

@@ -10,7 +10,7 @@ use Rattle.scan.specs.Scans.{Scan}
 use Rattle.scan.specs.Views.{cross_edges, slab_sum_of, column_sum_of, step_of, landing, weight_of}
 
 -- No divisor of U, W, S and T is zero, and no numerator exceeds 2^62 in size.
-pub record Divides (scan : Scan) (along : SlabAxis) (a b : ℤ) : Type 0 where
+pub record SafeDivisions (scan : Scan) (along : SlabAxis) (a b : ℤ) : Type 0 where
   pub slab_divisor : (j : ℕ) → 0 < unsigned_abs (depth scan.source a (slab_sum_of scan along j))
   pub cross_dividend : (j i : ℕ) → unsigned_abs (scan.source *ℤ (pos 2 *ℤ edge_of (cross_edges scan along) i *ℤ a +ℤ slab_sum_of scan along j *ℤ b)) ≤ 2 ^ 62
   pub height_dividend : (l : ℕ) → unsigned_abs (pos 2 *ℤ scan.source *ℤ a *ℤ edge_of scan.z l) ≤ 2 ^ 62
@@ -23,7 +23,7 @@ pub record Divides (scan : Scan) (along : SlabAxis) (a b : ℤ) : Type 0 where
 pub record Lands (scan : Scan) (v : ℕ) : Type 0 where
   pub sound : Sound (landing scan v)
   pub floors : Floors
-  pub divides : Divides scan (slab_axis (step_of scan v)) (main_of (step_of scan v)) (side_of (step_of scan v))
+  pub divides : SafeDivisions scan (slab_axis (step_of scan v)) (main_of (step_of scan v)) (side_of (step_of scan v))
   pub S_rises : pos 0 <ℤ main_of (step_of scan v) → (k : ℕ) → (landing scan v).S k ≤ℤ (landing scan v).S (k + 1)
   pub S_falls : main_of (step_of scan v) <ℤ pos 0 → (k : ℕ) → (landing scan v).S (k + 1) ≤ℤ (landing scan v).S k
   pub light : (x c : ℕ) → weight_of scan v x c < 2 ^ 52
