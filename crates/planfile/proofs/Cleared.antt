@@ -6,8 +6,8 @@ use Rattle.scan.specs.Verdicts.{refused_where}
 use Rattle.scan.specs.DraftChecks.{source_check, clearance_check}
 use Rattle.scan.specs.declared.refusal.Refusal.{Refusal}
 use Rattle.scan.specs.declared.refusal.Refusal.TheVariants.{SourceTooNear, ColumnBeyond}
-use Rattle.planfile.specs.Sections.{section_at, start}
-use Rattle.planfile.specs.FileChecks.{entry, refused_in, clearance}
+use Rattle.planfile.specs.Sections.{section_at, entry, start}
+use Rattle.planfile.specs.FileChecks.{refused_in, clearance}
 use Rattle.planfile.specs.declared.fault.Fault.{Fault}
 use Rattle.planfile.proofs.Nones.{none_or, none_map, first_nothing, second_nothing}
 

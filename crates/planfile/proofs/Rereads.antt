@@ -5,8 +5,8 @@ use Rattle.std.proofs.lemmas.List.{length-map}
 use Rattle.scan.specs.Axes.{Proper}
 use Rattle.scan.specs.Limits.{Fitted}
 use Rattle.scan.specs.Scans.{Scan}
-use Rattle.planfile.specs.Sections.{start}
-use Rattle.planfile.specs.FileChecks.{entry, refused_in, distances_section, axis_section, steps_section, clearance, axes_check, plan_check}
+use Rattle.planfile.specs.Sections.{start, entry}
+use Rattle.planfile.specs.FileChecks.{refused_in, distances_section, axis_section, steps_section, clearance, axes_check, plan_check}
 use Rattle.planfile.specs.Plans.{scan_in}
 use Rattle.planfile.specs.Written.{section_bytes, written}
 use Rattle.planfile.proofs.Nones.{none_or, none_map}

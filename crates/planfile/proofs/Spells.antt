@@ -2,8 +2,8 @@
 use Rattle.std.specs.Prelude.{◌≡◌, ℕ, suc, ◌<◌, false, List, [], ◌∷◌, ◌++◌, map, length, ℤ, pos, negsuc, drop, None, int_lt, slice_index, slice_index_or, unsigned_abs}
 use Rattle.std.proofs.Common.{refl, arith, ap, sym, ◌∙◌}
 use Rattle.scan.proofs.Firsts.{first_none}
-use Rattle.planfile.specs.Sections.{section_at, end_of, start}
-use Rattle.planfile.specs.FileChecks.{axes_check, entry, section_check, distances_section, axis_section, steps_section, clearance, plan_check, first_no_step}
+use Rattle.planfile.specs.Sections.{section_at, entry, end_of, start}
+use Rattle.planfile.specs.FileChecks.{axes_check, section_check, distances_section, axis_section, steps_section, clearance, plan_check, first_no_step}
 use Rattle.planfile.specs.Plans.{scan_in}
 use Rattle.planfile.specs.Written.{section_bytes, written}
 use Rattle.planfile.proofs.FourBytes.{AreBytes}

@@ -9,7 +9,7 @@ use Rattle.scan.specs.declared.refusal.Refusal.{Refusal}
 use Rattle.scan.specs.declared.refusal.Refusal.TheVariants.{StepOutOfRange, StoreLength}
 use Rattle.scan.specs.declared.refusal.Store.TheVariants.{Volume}
 use Rattle.planfile.specs.Numbers.{count_at}
-use Rattle.planfile.specs.Sections.{place_of, section_at, end_of, start}
+use Rattle.planfile.specs.Sections.{place_of, section_at, entry, end_of, start}
 use Rattle.planfile.specs.Faults.{refused_at}
 use Rattle.planfile.specs.declared.fault.Fault.{Fault}
 use Rattle.planfile.specs.declared.fault.Fault.TheVariants.{Incomplete, Trailing}
@@ -31,10 +31,6 @@ section_check bytes p least most =
 -- The fault of a refusal, at the edge or the distance that it names, of the section that begins at place p.
 abbrev pub refused_in : ℕ → Refusal → Fault
 refused_in p refusal = refused_at (place_of p (edge_number refusal)) refusal
-
--- Number i, counted from 0, of the section that begins at place p; past the last, 0.
-abbrev pub entry : List ℕ → ℕ → ℕ → ℤ
-entry bytes p i = edge_or_zero (section_at bytes p) i
 
 -- The section of the distances has two numbers, and then checks 6 for D and 6 for F.
 unfoldable pub distances_section : List ℕ → ℕ → Option Fault

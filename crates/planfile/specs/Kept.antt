@@ -1,8 +1,7 @@
 -- What the reader of a plan keeps of the sections that it has read: for readers of the code. The calls' promises do not rest on it.
 use Rattle.std.specs.Prelude.{◌≡◌, ℕ, List, ℤ}
 use Rattle.planfile.specs.Numbers.{numbers_in}
-use Rattle.planfile.specs.Sections.{section_at, start}
-use Rattle.planfile.specs.FileChecks.{entry}
+use Rattle.planfile.specs.Sections.{section_at, entry, start}
 use Rattle.planfile.specs.declared.axes.Axes.{Axes}
 
 -- Of the first six sections: D and F, the edges of the five axes, and where the section of the columns begins.

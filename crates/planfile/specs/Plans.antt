@@ -1,8 +1,7 @@
 -- The scan that the bytes of a plan hold, and the values of its voxels.
 use Rattle.std.specs.Prelude.{ℕ, List, map, unsigned_abs}
 use Rattle.scan.specs.Scans.{Scan}
-use Rattle.planfile.specs.Sections.{section_at, start}
-use Rattle.planfile.specs.FileChecks.{entry}
+use Rattle.planfile.specs.Sections.{section_at, entry, start}
 use Rattle.values.specs.Counts.{count_of}
 use Rattle.values.specs.declared.count.Count.{Count}
 

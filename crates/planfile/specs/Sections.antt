@@ -1,5 +1,5 @@
 -- Sections: a count, and then as many numbers. A file has eight, of which the first seven are the plan: the distances, the edges of x, y, z, the columns and the rows, the steps, and the values of the voxels.
-use Rattle.std.specs.Prelude.{ℕ, zero, suc, ◌+◌, ◌*◌, List, ℤ}
+use Rattle.std.specs.Prelude.{ℕ, zero, suc, ◌+◌, ◌*◌, List, ℤ, pos, slice_index_or}
 use Rattle.planfile.specs.Numbers.{count_at, numbers_from}
 
 -- The place of number i, counted from 0, of the section that begins at place p, with its count.
@@ -9,6 +9,10 @@ place_of p i = p + 4 + 4 * i
 -- The numbers of the section that begins at place p.
 unfoldable pub section_at : List ℕ → ℕ → List ℤ
 section_at bytes p = numbers_from bytes (p + 4) (count_at bytes p)
+
+-- Number i, counted from 0, of the section that begins at place p; past the last, 0.
+abbrev pub entry : List ℕ → ℕ → ℕ → ℤ
+entry bytes p i = slice_index_or (section_at bytes p) i (pos 0)
 
 -- Where the section that begins at place p ends: the place after its last number.
 unfoldable pub end_of : List ℕ → ℕ → ℕ

@@ -2,9 +2,9 @@
 ghost use Rattle.std.specs.Prelude.{◌≡◌, ◌^◌, ◌<◌, ◌≤◌, length, IfSome, OnOk};
 ghost use Rattle.scan.specs.Verdicts.{Verdict};
 ghost use Rattle.planfile.specs.Numbers.{numbers_in};
-ghost use Rattle.planfile.specs.Sections.{section_at, end_of, start};
+ghost use Rattle.planfile.specs.Sections.{section_at, entry, end_of, start};
 ghost use Rattle.planfile.specs.Kept.{AxesOf};
-ghost use Rattle.planfile.specs.FileChecks.{entry, first_no_step, distances_section, axis_section, steps_section, axes_check};
+ghost use Rattle.planfile.specs.FileChecks.{first_no_step, distances_section, axis_section, steps_section, axes_check};
 
 use crate::axes::Axes;
 use crate::bytes_axis::BytesAxis;

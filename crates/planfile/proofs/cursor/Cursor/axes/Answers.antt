@@ -1,7 +1,7 @@
 use Rattle.std.proofs.Common.{refl, sym, ap, ◌∙◌}
 use Rattle.std.specs.Prelude.{length}
-use Rattle.planfile.specs.Sections.{section_at, end_of, start}
-use Rattle.planfile.specs.FileChecks.{entry, distances_section, axis_section, axes_check}
+use Rattle.planfile.specs.Sections.{section_at, entry, end_of, start}
+use Rattle.planfile.specs.FileChecks.{distances_section, axis_section, axes_check}
 use Rattle.planfile.proofs.SectionFacts.{section_count}
 use Rattle.planfile.proofs.Nones.{none_or}
 use Rattle.planfile.proofs.Moves.{At, moves, said}

@@ -5,8 +5,8 @@ use Rattle.std.proofs.lemmas.Int.{to_z-of_z}
 use Rattle.scan.specs.AxisChecks.{edge_or_zero}
 use Rattle.scan.specs.DraftChecks.{distances_check}
 use Rattle.scan.specs.Refusals.{place as edge_number}
-use Rattle.planfile.specs.Sections.{place_of, end_of}
-use Rattle.planfile.specs.FileChecks.{entry, refused_in, distances_section}
+use Rattle.planfile.specs.Sections.{place_of, end_of, entry}
+use Rattle.planfile.specs.FileChecks.{refused_in, distances_section}
 use Rattle.planfile.proofs.SectionFacts.{section_count}
 use Rattle.planfile.proofs.SectionChecks.{section_known}
 use Rattle.planfile.proofs.Named.{placed_within, distance_named, placed_is}
