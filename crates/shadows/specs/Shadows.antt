@@ -13,7 +13,7 @@ use Rattle.planfile.specs.FileChecks.{plan_check, voxels_check}
 use Rattle.planfile.specs.Plans.{scan_in}
 use Rattle.values.specs.Counts.{count_of}
 use Rattle.values.specs.declared.count.Count.{Count}
-use Rattle.sweeps.specs.Checks.{system_of}
+use Rattle.sweeps.specs.Systems.{system_of}
 use Rattle.sweeps.specs.Tally.{tallied}
 use Rattle.shadows.specs.EveryView.{projected, backprojected}
 use Rattle.shadows.specs.declared.refusal.Refusal.{Refusal}

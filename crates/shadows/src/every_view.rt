@@ -3,7 +3,7 @@ ghost use Rattle.std.specs.Prelude.{◌≡◌, length};
 ghost use Rattle.scan.specs.Meanings.{plan_of};
 ghost use Rattle.calls.specs.Stores.{built};
 ghost use Rattle.calls.specs.Systems.{voxels, places};
-ghost use Rattle.sweeps.specs.Checks.{system_of};
+ghost use Rattle.sweeps.specs.Systems.{system_of};
 ghost use Rattle.shadows.specs.EveryView.{projected, backprojected};
 
 use scan::plan::Plan;

@@ -12,7 +12,8 @@ use Rattle.calls.specs.Calls.{forward, back, transfer, scale, in_cells}
 use Rattle.calls.specs.Stores.{at}
 use Rattle.calls.specs.Systems.{System, voxels, places}
 use Rattle.calls.specs.declared.voxel_box.VoxelBox.{VoxelBox}
-use Rattle.sweeps.specs.Checks.{system_of, sweep_check, transfer_check, scale_check, trim_check, row_check}
+use Rattle.sweeps.specs.Checks.{sweep_check, transfer_check, scale_check, trim_check, row_check}
+use Rattle.sweeps.specs.Systems.{system_of}
 use Rattle.sweeps.specs.Passes.{weights, CellsOf}
 use Rattle.sweeps.specs.Strips.{Gained}
 use Rattle.sweeps.specs.declared.pass.Way.TheVariants.{Forward, Back}

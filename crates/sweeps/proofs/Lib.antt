@@ -2,7 +2,7 @@ pub mod Parts
 pub mod Laid
 pub mod Gains
 pub mod Runs
-pub mod Beams
+pub mod Meetings
 pub mod Levels
 pub mod Blocks
 pub mod Whole

@@ -10,9 +10,9 @@ use Rattle.scan.specs.Landing.{Landing, Sound, by_slabs, nx, ny, voxels, cells, 
 use Rattle.values.specs.Naturals.{naturals}
 use Rattle.values.specs.Laws.{Ops, Laws}
 use Rattle.sweeps.specs.declared.pass.Pass.{Pass}
-use Rattle.sweeps.specs.Passes.{Sized, Swept, slab_start, slab_stride, rise, voxel_share, cell_share, beam_weight, column_weight, layers_weight, block_weight}
+use Rattle.sweeps.specs.Passes.{Sized, Swept, slab_start, slab_stride, height_stride, voxel_share, cell_share, height_weight, column_weight, layers_weight, block_weight}
 use Rattle.values.proofs.Naturals.{naturals_laws}
-use Rattle.sweeps.proofs.Beams.{voxel_place, no_voxels, no_cells}
+use Rattle.sweeps.proofs.Meetings.{voxel_place, no_voxels, no_cells}
 use Rattle.sweeps.proofs.Laid.{laid_only, laid_miss}
 use Rattle.sweeps.proofs.Levels.{summed, swept_none, swept_joined, swept_within}
 
@@ -28,9 +28,9 @@ block_more L first n x c =
     ∙ sym (sum_split naturals_laws first n (λ k. whole_column L k x c))
 
 -- the heights from the lowest on
-from_lowest : (L : Landing) (j k n x c : ℕ) → column_weight L j k 0 n x c ≡ sum naturals n (λ l. beam_weight L j k l x c)
+from_lowest : (L : Landing) (j k n x c : ℕ) → column_weight L j k 0 n x c ≡ sum naturals n (λ l. height_weight L j k l x c)
 unfolding column_weight
-from_lowest L j k n x c = sum_same naturals_laws n _ _ (λ t h. let e : 0 + t ≡ t = omega arith in ap (λ l. beam_weight L j k l x c) e)
+from_lowest L j k n x c = sum_same naturals_laws n _ _ (λ t h. let e : 0 + t ≡ t = omega arith in ap (λ l. height_weight L j k l x c) e)
 
 -- some layers above the ones below them
 layers_more : (L : Landing) (first count j low n x c : ℕ) → layers_weight L first count j 0 low x c + layers_weight L first count j low n x c ≡ layers_weight L first count j 0 (low + n) x c
@@ -38,7 +38,7 @@ unfolding layers_weight column_weight
 layers_more L first count j low n x c =
     sym (sum_plus naturals_laws count _ _)
     ∙ sum_same naturals_laws count _ _ (λ d h.
-    let M : ℕ → ℕ = λ l. beam_weight L j (first + d) l x c in
+    let M : ℕ → ℕ = λ l. height_weight L j (first + d) l x c in
     ap (λ u. u + sum naturals n (λ t. M (low + t))) (from_lowest L j (first + d) low x c) ∙ sym (sum_split naturals_laws low n M) ∙ sym (from_lowest L j (first + d) (low + n) x c))
 
 -- an axis has cells, whichever it is
@@ -106,7 +106,7 @@ module _ (L : Landing) (sound : Sound L) (x c : ℕ) (xv : x < voxels L) (cc : c
   row_below = div_below c L.columns L.rows sound.columns.0 cc
 
   -- a voxel at a line's place is the line's
-  of_line : (j l i : ℕ) → j < L.slabs → i < L.crosses → x ≡ slab_start L j + l * rise L + i * slab_stride L → (j ≡ j') × ((i ≡ i') × (l ≡ l'))
+  of_line : (j l i : ℕ) → j < L.slabs → i < L.crosses → x ≡ slab_start L j + l * height_stride L + i * slab_stride L → (j ≡ j') × ((i ≡ i') × (l ≡ l'))
   of_line j l i js ic e = voxel_decoded L.slabs L.crosses x L.along l j i js ic (e ∙ voxel_place L.along L.slabs L.crosses l j i)
 
   slab_is_below : j' < L.slabs
@@ -115,13 +115,13 @@ module _ (L : Landing) (sound : Sound L) (x c : ℕ) (xv : x < voxels L) (cc : c
   -- on its own line it has its overlap
   voxel_here : (k : ℕ) → voxel_share L j' k l' x ≡ cross_overlap L j' i' k
   voxel_here k =
-      laid_only (slab_start L j' + l' * rise L) (slab_stride L) (λ i. cross_overlap L j' i k) L.crosses i' x
+      laid_only (slab_start L j' + l' * height_stride L) (slab_stride L) (λ i. cross_overlap L j' i k) L.crosses i' x
       (cross_below L.slabs L.crosses x L.along sound.slabs.0 sound.crosses.0)
       (voxel_encoded L.slabs L.crosses x L.along ∙ sym (voxel_place L.along L.slabs L.crosses l' j' i'))
       (λ i ic ne e. ne (of_line j' l' i slab_is_below ic e).1.0)
 
   -- the voxel stands on no other line
-  voxel_miss : (j k l : ℕ) → j < L.slabs → (j ≡ j' → l ≡ l' → ⊥) → beam_weight L j k l x c ≡ 0
+  voxel_miss : (j k l : ℕ) → j < L.slabs → (j ≡ j' → l ≡ l' → ⊥) → height_weight L j k l x c ≡ 0
   voxel_miss j k l js other =
       no_voxels L j k l x c
       (laid_miss _ (slab_stride L) (λ i. cross_overlap L j i k) L.crosses x (λ i ic e. let of = of_line j l i js ic e in other of.0 of.1.1))
@@ -143,7 +143,7 @@ module _ (L : Landing) (sound : Sound L) (x c : ℕ) (xv : x < voxels L) (cc : c
       (λ m mr ne e. ne (of_column k' m column_below e).1)
 
   -- the cell stands in no other column
-  cell_miss : (j k l : ℕ) → k < L.columns → k ≢ k' → beam_weight L j k l x c ≡ 0
+  cell_miss : (j k l : ℕ) → k < L.columns → k ≢ k' → height_weight L j k l x c ≡ 0
   cell_miss j k l kc ne =
       no_cells L j k l x c (laid_miss k L.columns (λ m. height_overlap L j l k m) L.rows c (λ m mr e. ne (of_column k m kc e).0))
 
@@ -156,12 +156,12 @@ module _ (L : Landing) (sound : Sound L) (x c : ℕ) (xv : x < voxels L) (cc : c
 
   -- every voxel and cell have their weight, once
   whole_weight : summed (whole_column L) L.columns x c ≡ weight L x c
-  unfolding weight beam_weight
+  unfolding weight height_weight
   whole_weight =
       sum_only naturals_laws L.columns k' (λ k. whole_column L k x c) column_below other_column
       ∙ sum_only naturals_laws L.slabs j' (λ j. column_weight L j k' 0 L.heights x c) slab_is_below other_slab
       ∙ from_lowest L j' k' L.heights x c
-      ∙ sum_only naturals_laws L.heights l' (λ l. beam_weight L j' k' l x c) height_below (λ l lh ne. voxel_miss j' k' l slab_is_below (λ e f. ne f))
+      ∙ sum_only naturals_laws L.heights l' (λ l. height_weight L j' k' l x c) height_below (λ l lh ne. voxel_miss j' k' l slab_is_below (λ e f. ne f))
       ∙ ap₂ (λ a b. a * b) (voxel_here k') (cell_here j' l')
 
 module _ {V View : Type 0} {o : Ops V} (laws : Laws o) {pass : Pass V View} (L : Landing) {old : List V} where

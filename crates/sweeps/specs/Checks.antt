@@ -1,10 +1,7 @@
--- The numbers and weights by which the calls go on a plan, and when they refuse: of checks joined by `option_or` the first that refuses is the answer.
+-- When the calls refuse: of checks joined by `option_or` the first that refuses is the answer.
 use Rattle.std.specs.Prelude.{ℕ, not, length, Option, ◌==◌}
 use Rattle.std.specs.Option.{option_or}
-use Rattle.scan.specs.Axes.{cells_of}
 use Rattle.scan.specs.Verdicts.{refused_where}
-use Rattle.scan.specs.Scans.{Scan, panel_of}
-use Rattle.scan.specs.Views.{weight_of}
 use Rattle.scan.specs.declared.refusal.Refusal.{Refusal}
 use Rattle.scan.specs.declared.refusal.Refusal.TheVariants.{NoView, StoreLength, BoxBounds}
 use Rattle.scan.specs.declared.refusal.Store.{Store}
@@ -18,18 +15,6 @@ use Rattle.calls.specs.declared.call.Call.{Call}
 use Rattle.calls.specs.declared.call.Call.TheVariants.{Forward, Back, Take, Give, Scale, Trim}
 use Rattle.calls.specs.declared.voxel_box.Bounds.{Bounds}
 use Rattle.calls.specs.declared.voxel_box.VoxelBox.{VoxelBox}
-
--- A scan as the calls know it: its numbers of views, cells and voxels, and its weights.
-abbrev pub system_of : Scan → System
-system_of scan =
-    record {
-      views = length scan.steps;
-      cells = panel_of scan;
-      nx = cells_of scan.x;
-      ny = cells_of scan.y;
-      nz = cells_of scan.z;
-      weight = weight_of scan;
-    }
 
 -- A number of no view is refused by 22.
 abbrev pub view_number_check : System → ℕ → Option Refusal

@@ -16,7 +16,7 @@ use Rattle.calls.specs.RowLaws.{inner}
 use Rattle.calls.specs.Rows.{outcome, mirrored}
 use Rattle.calls.specs.declared.call.Call.{Call}
 use Rattle.calls.specs.declared.call.Call.TheVariants.{Forward, Back}
-use Rattle.sweeps.specs.Checks.{system_of}
+use Rattle.sweeps.specs.Systems.{system_of}
 
 -- The negative of a whole number.
 abbrev minus : ℕ → ℤ

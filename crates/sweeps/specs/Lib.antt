@@ -1,3 +1,4 @@
+pub mod Systems
 pub mod Checks
 pub mod Shadows
 pub mod Tally

@@ -48,24 +48,24 @@ abbrev pub slab_stride : Landing → ℕ
 slab_stride L = by_slabs L.along (nx L) 1
 
 -- The places from one voxel to the next along z.
-abbrev pub rise : Landing → ℕ
-rise L = ny L * nx L
+abbrev pub height_stride : Landing → ℕ
+height_stride L = ny L * nx L
 
 -- How far voxel x overlaps column k, if it stands in slab j at height l; else 0.
 abbrev pub voxel_share : Landing → ℕ → ℕ → ℕ → ℕ → ℕ
-voxel_share L j k l x = laid (slab_start L j + l * rise L) (slab_stride L) (λ i. cross_overlap L j i k) L.crosses x
+voxel_share L j k l x = laid (slab_start L j + l * height_stride L) (slab_stride L) (λ i. cross_overlap L j i k) L.crosses x
 
 -- How far cell c overlaps height l of slab j, if it stands in column k; else 0.
 abbrev pub cell_share : Landing → ℕ → ℕ → ℕ → ℕ → ℕ
 cell_share L j k l c = laid k L.columns (λ m. height_overlap L j l k m) L.rows c
 
 -- What voxel x and cell c have of their weight where slab j, column k and height l meet.
-unfoldable pub beam_weight : Landing → ℕ → ℕ → ℕ → ℕ → ℕ → ℕ
-beam_weight L j k l x c = voxel_share L j k l x * cell_share L j k l c
+unfoldable pub height_weight : Landing → ℕ → ℕ → ℕ → ℕ → ℕ → ℕ
+height_weight L j k l x c = voxel_share L j k l x * cell_share L j k l c
 
 -- The same over n heights from `low` on.
 unfoldable pub column_weight : Landing → ℕ → ℕ → ℕ → ℕ → ℕ → ℕ → ℕ
-column_weight L j k low n x c = sum naturals n (λ t. beam_weight L j k (low + t) x c)
+column_weight L j k low n x c = sum naturals n (λ t. height_weight L j k (low + t) x c)
 
 -- The same over `count` columns from the first on.
 unfoldable pub layers_weight : Landing → ℕ → ℕ → ℕ → ℕ → ℕ → ℕ → ℕ → ℕ
@@ -84,7 +84,7 @@ pub record SlabOf (L : Landing) (s : Slab) : Type 0 where
   pub below : s.number < L.slabs
   pub start : s.lowest.start ≡ slab_start L s.number
   pub stride : s.lowest.stride ≡ slab_stride L
-  pub rise : s.rise ≡ rise L
+  pub height_stride : s.height_stride ≡ height_stride L
   pub crosses : Tabled s.lowest.edges.at.now (L.crosses + 1) (L.U s.number)
   pub heights : Tabled s.heights.at.now (L.heights + 1) (L.W s.number)
 
@@ -104,7 +104,7 @@ pub record Meets (s : Slab) (c : Column) (strip : Strip) : Type 0 where
 
 -- The strip is the voxels of a slab at height l, over the stretch of a column.
 pub record VoxelLine (s : Slab) (c : Column) (l : ℕ) (strip : Strip) : Type 0 where
-  pub start : strip.line.start ≡ s.lowest.start + l * s.rise
+  pub start : strip.line.start ≡ s.lowest.start + l * s.height_stride
   pub stride : strip.line.stride ≡ s.lowest.stride
   pub edges : strip.line.edges ≡ s.lowest.edges
   pub over : strip.over ≡ c.over

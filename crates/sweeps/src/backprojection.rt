@@ -3,7 +3,8 @@ ghost use Rattle.std.specs.Result.{result_err};
 ghost use Rattle.scan.specs.Verdicts.{unless_refused};
 ghost use Rattle.scan.specs.Meanings.{plan_of};
 ghost use Rattle.calls.specs.Calls.{back};
-ghost use Rattle.sweeps.specs.Checks.{system_of, sweep_check};
+ghost use Rattle.sweeps.specs.Checks.{sweep_check};
+ghost use Rattle.sweeps.specs.Systems.{system_of};
 
 use crate::call::checked_sweep;
 use crate::pass::{Pass, Way};

@@ -1,5 +1,5 @@
 ghost use Rattle.std.specs.Prelude.{◌≡◌, ◌+◌, ◌-◌, ◌<◌, ◌≤◌, length};
-ghost use Rattle.sweeps.specs.Passes.{Sized, Swept, column_weight, layers_weight, slab_weight, block_weight, slab_start, slab_stride, rise, SlabOf, ColumnOf, BlockOf};
+ghost use Rattle.sweeps.specs.Passes.{Sized, Swept, column_weight, layers_weight, slab_weight, block_weight, slab_start, slab_stride, height_stride, SlabOf, ColumnOf, BlockOf};
 
 use crate::crossing::Crossing;
 use crate::edges::LandedEdges;
@@ -164,7 +164,7 @@ fn slab_of<'a, L: Landed>(
     ensures number { result.number ≡ number }
     ensures start { result.lowest.start ≡ slab_start (L.Landed.landing view.now) number }
     ensures stride { result.lowest.stride ≡ slab_stride (L.Landed.landing view.now) }
-    ensures rise { result.rise ≡ rise (L.Landed.landing view.now) }
+    ensures height_stride { result.height_stride ≡ height_stride (L.Landed.landing view.now) }
     ensures crosses { result.lowest.edges ≡ crosses.entry }
     ensures heights { result.heights ≡ heights.entry }
 {
@@ -181,7 +181,7 @@ fn slab_of<'a, L: Landed>(
             stride,
             edges: crosses,
         },
-        rise: slabs * across,
+        height_stride: slabs * across,
         heights,
     }
 }

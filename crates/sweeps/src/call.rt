@@ -3,7 +3,8 @@ ghost use Rattle.scan.specs.Verdicts.{Verdict};
 ghost use Rattle.scan.specs.Axes.{cells_of};
 ghost use Rattle.scan.specs.Meanings.{plan_of};
 ghost use Rattle.scan.specs.Scans.{edges_along, places_of};
-ghost use Rattle.sweeps.specs.Checks.{system_of, view_number_check, store_check, bounds_check, box_check, sweep_check, transfer_check, scale_check, trim_check, row_check};
+ghost use Rattle.sweeps.specs.Checks.{view_number_check, store_check, bounds_check, box_check, sweep_check, transfer_check, scale_check, trim_check, row_check};
+ghost use Rattle.sweeps.specs.Systems.{system_of};
 ghost use Rattle.sweeps.specs.Passes.{CellsOf};
 
 use calls::voxel_box::{Bounds, VoxelBox};

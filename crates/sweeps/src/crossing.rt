@@ -1,6 +1,6 @@
 ghost use Rattle.std.specs.Prelude.{◌+◌, ◌*◌, ◌<◌, ◌≤◌, length};
 ghost use Rattle.sweeps.specs.Strips.{strip_share};
-ghost use Rattle.sweeps.specs.Passes.{Sized, Swept, Placed, beam_weight, column_weight, SlabOf, ColumnOf, Meets, VoxelLine, CellLine};
+ghost use Rattle.sweeps.specs.Passes.{Sized, Swept, Placed, height_weight, column_weight, SlabOf, ColumnOf, Meets, VoxelLine, CellLine};
 
 use crate::carry::carry;
 use crate::pass::{Column, Layers, Pass, Slab, Way};
@@ -40,7 +40,7 @@ impl<V: Value, L: Landed> Crossing<'_, V, L> {
     fn sweep_height(&self, height: usize, near: usize, to: &mut [V]) -> usize
         requires sized { Sized (L.Landed.landing self.now.pass.now.view.now) self.now.pass.now (length to.old) }
         requires height { height < (L.Landed.landing self.now.pass.now.view.now).heights }
-        ensures { Swept V.Value.ops self.now.pass.now (beam_weight (L.Landed.landing self.now.pass.now.view.now) self.now.slab.number self.now.column.number height) to.old to.new }
+        ensures { Swept V.Value.ops self.now.pass.now (height_weight (L.Landed.landing self.now.pass.now.view.now) self.now.slab.number self.now.column.number height) to.old to.new }
     {
         let cells = self.cells_at(height, near);
         if cells.first < cells.last {
@@ -55,7 +55,7 @@ impl<V: Value, L: Landed> Crossing<'_, V, L> {
         ensures { VoxelLine self.now.slab self.now.column height result }
     {
         self.voxels
-            .moved(self.slab.lowest.start + height * self.slab.rise)
+            .moved(self.slab.lowest.start + height * self.slab.height_stride)
     }
 
     // The cells of the column over the stretch of a height.

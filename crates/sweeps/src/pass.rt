@@ -26,7 +26,7 @@ pub(crate) struct Pass<'a, V, L> {
 pub(crate) struct Slab<'a> {
     pub(crate) number: usize,
     pub(crate) lowest: Line<'a>,
-    pub(crate) rise: usize,
+    pub(crate) height_stride: usize,
     pub(crate) heights: LandedEdges<'a>,
 }
 

@@ -5,7 +5,8 @@ ghost use Rattle.scan.specs.Verdicts.{Verdict, unless_refused};
 ghost use Rattle.calls.specs.RowLaws.{Matched, Linear};
 ghost use Rattle.calls.specs.Rows.{made_by, outcome, refusals};
 ghost use Rattle.calls.specs.Stores.{three};
-ghost use Rattle.sweeps.specs.Checks.{system_of, call_check, row_check};
+ghost use Rattle.sweeps.specs.Checks.{call_check, row_check};
+ghost use Rattle.sweeps.specs.Systems.{system_of};
 ghost use Rattle.sweeps.specs.Shadows.{Conserved};
 
 use crate::backprojection::back;

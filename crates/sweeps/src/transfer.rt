@@ -4,7 +4,8 @@ ghost use Rattle.scan.specs.Verdicts.{unless_refused};
 ghost use Rattle.scan.specs.Meanings.{plan_of};
 ghost use Rattle.calls.specs.Stores.{at};
 ghost use Rattle.calls.specs.Calls.{transfer};
-ghost use Rattle.sweeps.specs.Checks.{system_of, transfer_check};
+ghost use Rattle.sweeps.specs.Checks.{transfer_check};
+ghost use Rattle.sweeps.specs.Systems.{system_of};
 
 use crate::alter::alter;
 use crate::call::checked_transfer;

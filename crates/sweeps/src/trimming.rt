@@ -6,7 +6,8 @@ ghost use Rattle.scan.specs.Scans.{voxels_of};
 ghost use Rattle.calls.specs.Boxes.{contains, box_contains, in_box};
 ghost use Rattle.calls.specs.Calls.{trim};
 ghost use Rattle.calls.specs.Stores.{at};
-ghost use Rattle.sweeps.specs.Checks.{system_of, trim_check};
+ghost use Rattle.sweeps.specs.Checks.{trim_check};
+ghost use Rattle.sweeps.specs.Systems.{system_of};
 
 use crate::alter::alter;
 use crate::call::checked_trim;

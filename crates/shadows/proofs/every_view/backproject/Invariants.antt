@@ -1,5 +1,5 @@
 use Rattle.scan.specs.Meanings.{plan_of}
-use Rattle.sweeps.specs.Checks.{system_of}
+use Rattle.sweeps.specs.Systems.{system_of}
 use Rattle.shadows.proofs.EveryView.{BackprojectedTo}
 use Rattle.shadows.proofs.every_view.backproject.Given as goal
 

@@ -1,5 +1,5 @@
 use Rattle.scan.specs.Meanings.{plan_of}
-use Rattle.sweeps.specs.Checks.{system_of}
+use Rattle.sweeps.specs.Systems.{system_of}
 use Rattle.shadows.proofs.EveryView.{ProjectedTo}
 use Rattle.shadows.proofs.every_view.project.Given as goal
 

@@ -5,7 +5,7 @@ use Rattle.scan.specs.Meanings.{plan_of}
 use Rattle.calls.specs.Stores.{built}
 use Rattle.calls.specs.Systems.{voxels}
 use Rattle.calls.proofs.Built.{length_built}
-use Rattle.sweeps.specs.Checks.{system_of}
+use Rattle.sweeps.specs.Systems.{system_of}
 use Rattle.sweeps.specs.Tally.{tallied}
 use Rattle.std.specs.Prelude.{true}
 use Rattle.shadows.specs.EveryView.{backprojected}

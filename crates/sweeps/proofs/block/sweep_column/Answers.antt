@@ -1,4 +1,4 @@
-use Rattle.sweeps.proofs.Beams.{column_none}
+use Rattle.sweeps.proofs.Meetings.{column_none}
 use Rattle.sweeps.proofs.Levels.{swept_none}
 use Rattle.sweeps.proofs.block.sweep_column.Goals as goal
 

@@ -1,7 +1,8 @@
 use Rattle.std.proofs.Common.{◌≡◌, ◌<◌, length, None, arith}
 use Rattle.scan.specs.Meanings.{plan_of}
 use Rattle.scan.specs.Scans.{panel_of}
-use Rattle.sweeps.specs.Checks.{system_of, view_number_check}
+use Rattle.sweeps.specs.Checks.{view_number_check}
+use Rattle.sweeps.specs.Systems.{system_of}
 use Rattle.std.proofs.lemmas.Nat.{row_fits}
 use Rattle.sweeps.proofs.call.cells_of_view.Goals as goal
 

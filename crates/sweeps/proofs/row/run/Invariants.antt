@@ -1,7 +1,7 @@
 use Rattle.std.proofs.Common.{◌≤◌, drop}
 use Rattle.scan.specs.Meanings.{plan_of}
 use Rattle.calls.specs.Stores.{three}
-use Rattle.sweeps.specs.Checks.{system_of}
+use Rattle.sweeps.specs.Systems.{system_of}
 use Rattle.sweeps.proofs.RowFacts.{Ran}
 use Rattle.sweeps.proofs.row.run.Given as goal
 

@@ -1,5 +1,5 @@
 use Rattle.scan.specs.Meanings.{plan_of}
-use Rattle.sweeps.specs.Checks.{system_of}
+use Rattle.sweeps.specs.Systems.{system_of}
 use Rattle.sweeps.proofs.CallFacts.{trim_sized}
 use Rattle.sweeps.proofs.Lines.{trim_is}
 use Rattle.sweeps.proofs.trimming.trim.Goals as goal

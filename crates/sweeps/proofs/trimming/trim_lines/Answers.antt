@@ -1,6 +1,6 @@
 use Rattle.std.proofs.Common.{◌*◌, ◌∙◌, sym, refl}
 use Rattle.scan.specs.Meanings.{plan_of}
-use Rattle.sweeps.specs.Checks.{system_of}
+use Rattle.sweeps.specs.Systems.{system_of}
 use Rattle.sweeps.proofs.Lines.{line_trimmed}
 use Rattle.sweeps.proofs.trimming.trim_lines.Goals as goal
 

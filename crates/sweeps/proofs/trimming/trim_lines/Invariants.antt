@@ -1,6 +1,6 @@
 use Rattle.std.proofs.Common.{◌*◌}
 use Rattle.scan.specs.Meanings.{plan_of}
-use Rattle.sweeps.specs.Checks.{system_of}
+use Rattle.sweeps.specs.Systems.{system_of}
 use Rattle.sweeps.proofs.Lines.{DoneBelow, trimmed}
 use Rattle.sweeps.proofs.trimming.trim_lines.Given as goal
 

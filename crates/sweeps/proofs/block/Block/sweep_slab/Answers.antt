@@ -17,7 +17,7 @@ sweep_heights-requires-clause-slab g c =
       below = rw e.number c.requires.number;
       start = rw e.number e.start;
       stride = e.stride;
-      rise = e.rise;
+      height_stride = e.height_stride;
       crosses = rw (e.crosses, e.number) U;
       heights = rw (e.heights, e.number) W;
     }

@@ -1,5 +1,5 @@
 use Rattle.std.proofs.Common.{ap, ◌∙◌, arith}
-use Rattle.sweeps.proofs.Beams.{line_most}
+use Rattle.sweeps.proofs.Meetings.{line_most}
 use Rattle.sweeps.proofs.crossing.Crossing.voxels_at.Goals as goal
 
 pub overflow_add-self : goal.overflow_add-self

@@ -7,7 +7,7 @@ use Rattle.geometry.specs.declared.direction.SlabAxis.TheVariants.{X, Y}
 use Rattle.values.proofs.Sums.{sum_same, sum_none}
 use Rattle.scan.specs.Landing.{Landing, Sound, by_slabs, voxels, cells, cross_overlap, height_overlap}
 use Rattle.sweeps.specs.Strips.{laid, strip_cells, cell_overlap, strip_share, Inside}
-use Rattle.sweeps.specs.Passes.{Lengths, Placed, slab_start, slab_stride, rise, voxel_share, cell_share, beam_weight, column_weight, SlabOf, ColumnOf, Meets, VoxelLine, CellLine}
+use Rattle.sweeps.specs.Passes.{Lengths, Placed, slab_start, slab_stride, height_stride, voxel_share, cell_share, height_weight, column_weight, SlabOf, ColumnOf, Meets, VoxelLine, CellLine}
 use Rattle.sweeps.specs.declared.pass.Way.{Way}
 use Rattle.sweeps.specs.declared.pass.Way.TheVariants.{Forward, Back}
 use Rattle.sweeps.specs.declared.pass.Slab.{Slab}
@@ -31,7 +31,7 @@ voxel_below X s c h l j i lh js ic = digits_lt (digits_lt lh ic) js
 voxel_below Y s c h l j i lh js ic = digits_lt (digits_lt lh js) ic
 
 module _ (L : Landing) where
-  voxel_inside : (j l i : ℕ) → j < L.slabs → l < L.heights → i < L.crosses → slab_start L j + l * rise L + i * slab_stride L < voxels L
+  voxel_inside : (j l i : ℕ) → j < L.slabs → l < L.heights → i < L.crosses → slab_start L j + l * height_stride L + i * slab_stride L < voxels L
   voxel_inside j l i js lh ic =
       rw (voxel_place L.along L.slabs L.crosses l j i) (voxel_below L.along L.slabs L.crosses L.heights l j i lh js ic)
 
@@ -44,12 +44,12 @@ volume_most X s c h ls lc lh = mul-le-mul (mul-le-mul lh lc) ls
 volume_most Y s c h ls lc lh = mul-le-mul (mul-le-mul lh ls) lc
 
 -- the lowest voxel of a line has a small place
-pub line_most : {L : Landing} {slab : Slab} → Sound L → SlabOf L slab → (l : ℕ) → l < L.heights → slab.lowest.start + l * slab.rise < 2 ^ 27
+pub line_most : {L : Landing} {slab : Slab} → Sound L → SlabOf L slab → (l : ℕ) → l < L.heights → slab.lowest.start + l * slab.height_stride < 2 ^ 27
 line_most {L = L} {slab = slab} sound sl l lh =
     let some = sound.crosses.0 in
     let h = voxel_inside L slab.number l 0 sl.below lh (omega arith) in
     let m = volume_most L.along L.slabs L.crosses L.heights sound.slabs.1 sound.crosses.1 sound.heights.1 in
-    rw (sl.start, sl.rise) (omega (arith, zero-mul (slab_stride L)))
+    rw (sl.start, sl.height_stride) (omega (arith, zero-mul (slab_stride L)))
 
 -- strips of the volume and of the view's cells lie in the stores of a pass, whichever is read
 placed : (way : Way) (L : Landing) (from to : ℕ) (s t : Strip) → Inside s (voxels L) → Inside t (cells L) → Lengths way L from to → Placed way s t from to
@@ -84,12 +84,12 @@ module _ {s : Strip} {start stride : ℕ} {w : ℕ → ℕ} {n : ℕ} (st : Stan
 
 -- a voxel or a cell that is not there has no weight
 module _ (L : Landing) (j k l x c : ℕ) where
-  pub no_voxels : voxel_share L j k l x ≡ 0 → beam_weight L j k l x c ≡ 0
-  unfolding beam_weight
+  pub no_voxels : voxel_share L j k l x ≡ 0 → height_weight L j k l x c ≡ 0
+  unfolding height_weight
   no_voxels e = ap (λ a. a * cell_share L j k l c) e ∙ zero-mul _
 
-  pub no_cells : cell_share L j k l c ≡ 0 → beam_weight L j k l x c ≡ 0
-  unfolding beam_weight
+  pub no_cells : cell_share L j k l c ≡ 0 → height_weight L j k l x c ≡ 0
+  unfolding height_weight
   no_cells e = ap (λ b. voxel_share L j k l x * b) e ∙ mul-zero _
 
 module _ {L : Landing} {slab : Slab} {column : Column} (sl : SlabOf L slab) (co : ColumnOf L column) where
@@ -119,10 +119,10 @@ module _ {L : Landing} {slab : Slab} {column : Column} (sl : SlabOf L slab) (co 
         (overlap_sym (L.T column.number m) (L.T column.number (m + 1)) (L.W slab.number l) (L.W slab.number (l + 1)))
 
     -- the line of voxels, and the line of cells
-    voxels_stand : {s : Strip} → VoxelLine slab column l s → Stands s (slab_start L slab.number + l * rise L) (slab_stride L) (λ i. cross_overlap L slab.number i column.number) L.crosses
+    voxels_stand : {s : Strip} → VoxelLine slab column l s → Stands s (slab_start L slab.number + l * height_stride L) (slab_stride L) (λ i. cross_overlap L slab.number i column.number) L.crosses
     voxels_stand {s = s} v =
         record {
-          start_is = rw (v.start, sl.start, sl.rise);
+          start_is = rw (v.start, sl.start, sl.height_stride);
           stride_is = rw (v.stride, sl.stride);
           cells_are = rw (v.edges, sl.crosses.0) (omega arith);
           overlaps = cross_is s v.edges v.over;
@@ -138,18 +138,18 @@ module _ {L : Landing} {slab : Slab} {column : Column} (sl : SlabOf L slab) (co 
         }
 
     -- no cell is reached
-    pub cells_none : {s : Strip} → CellLine slab column l s → s.last ≤ s.first → (x c : ℕ) → beam_weight L slab.number column.number l x c ≡ 0
+    pub cells_none : {s : Strip} → CellLine slab column l s → s.last ≤ s.first → (x c : ℕ) → height_weight L slab.number column.number l x c ≡ 0
     cells_none v h x c = no_cells L slab.number column.number l x c (stands_none (cells_stand v) h c)
 
     module _ {s t : Strip} (vs : VoxelLine slab column l s) (ct : CellLine slab column l t) where
       -- what a voxel and a cell have of their weight here
-      pub beam_is : (x c : ℕ) → strip_share s x * strip_share t c ≡ beam_weight L slab.number column.number l x c
-      unfolding beam_weight
-      beam_is x c = ap₂ (λ a b. a * b) (stands_laid (voxels_stand vs) x) (stands_laid (cells_stand ct) c)
+      pub meeting_is : (x c : ℕ) → strip_share s x * strip_share t c ≡ height_weight L slab.number column.number l x c
+      unfolding height_weight
+      meeting_is x c = ap₂ (λ a b. a * b) (stands_laid (voxels_stand vs) x) (stands_laid (cells_stand ct) c)
 
       -- the two lines lie in the stores of a pass
-      pub beam_placed : (way : Way) (from to : ℕ) → Lengths way L from to → Placed way s t from to
-      beam_placed way from to =
+      pub meeting_placed : (way : Way) (from to : ℕ) → Lengths way L from to → Placed way s t from to
+      meeting_placed way from to =
           placed way L from to s t
           (stands_inside (voxels_stand vs) (voxels L) (λ i. voxel_inside L slab.number l i sl.below lh))
           (stands_inside (cells_stand ct) (cells L) (λ m. cell_inside L column.number m co.below))
