@@ -516,14 +516,17 @@ def random_rows():
 
 def landweber():
     plan = Plan(D=1000, F=2000, **SMALL, steps=[0, 16])
-    print("case iteration: small plan, steps 0 16, Landweber from an image of zeros, measured is the forward of ones")
+    print("case iteration: small plan, steps 0 16, Landweber from an image of twos, measured is the forward of ones")
     minus = Count.of(-1)
     shadow = run(Count, plan, [("forward", 0, 1), ("forward", 1, 1)], ([1] * 4, [0] * 4, [0] * 4))[0][2]
     row = [(name, v, f) for name, f in (("forward", minus), ("take", 1), ("back", 1)) for v in (0, 1)]
-    (image, _, working), refused = run(Count, plan, row, ([0] * 4, shadow, [0] * 4))
+    (image, _, working), refused = run(Count, plan, row, ([2] * 4, shadow, [0] * 4))
     line("image", Count, image)
     line("working", Count, working)
     numbers("refused", [refused])
+    row = [("back", v, True) for v in (0, 1)]
+    (reached, _, _), _ = run(Reach, plan, row, ([False] * 4, [False] * 4, [True, False] * 2))
+    line("voxels that the first column of some view reaches", Reach, reached)
 
 
 def first_cells():

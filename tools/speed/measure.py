@@ -96,7 +96,7 @@ def main():
     parser.add_argument("what", choices=["compare", "growth"])
     parser.add_argument("cases", nargs="*", default=CASES, metavar="CASE")
     parser.add_argument("--rounds", type=int, default=9)
-    arguments = parser.parse_args()
+    arguments = parser.parse_intermixed_args()
     if not BENCH.exists():
         sys.exit(f"{BENCH} is not there: (cd crates/bench && rt run)")
     if arguments.what == "compare":

@@ -47,7 +47,7 @@ fn shadow(heap: Global, plan: &Plan) -> Result<Vec<Count>, Failure> {
     Ok(working)
 }
 
-// One Landweber iteration from an image of zeros: the measured shadow less the image's own is projected back. Answers the
+// One Landweber iteration from an image of twos: the measured shadow less the image's own is projected back. Answers the
 // image, and how many calls of the row were refused.
 fn iterated(
     heap: Global,
@@ -63,16 +63,21 @@ fn iterated(
     for view in 0..plan.views() {
         row.push(Call::Back { view, factor: one })?;
     }
-    let mut image = vec![in heap; Count::ZERO; plan.voxels()]?;
+    let mut image = vec![in heap; Count::from(2); plan.voxels()]?;
     let mut working = vec![in heap; Count::ZERO; plan.places()]?;
     let refused = run(plan, &row, &mut image, measured, &mut working)?;
     Ok((image, refused))
 }
 
-// How many voxels some cell of some view reaches.
+// How many voxels the first column of some view reaches.
 fn hits(heap: Global, plan: &Plan) -> Result<usize, Failure> {
     let yes = Reach { yes: true };
-    let working = vec![in heap; yes; plan.places()]?;
+    let columns = plan.cells_along(ScanAxis::Column);
+    let working: Vec<Reach> = (0..plan.places())
+        .map(|place| Reach {
+            yes: place % columns == 0,
+        })
+        .collect(heap)?;
     let mut volume = vec![in heap; Reach::ZERO; plan.voxels()]?;
     // By number, since the number of the view is what each call takes.
     for view in 0..plan.views() {
@@ -174,7 +179,7 @@ fn main(rt: HostRuntime) -> io::Result<()> {
         Err(stop) => println!(rt; "{stop}")?,
     }
     println!(rt;
-        "Views at steps 0 and 16: sealed. Forward from ones as Count, back from all cells as Reach, and one Landweber iteration from zeros:"
+        "Views at steps 0 and 16: sealed. Forward from ones as Count, back from the first column as Reach, and one Landweber iteration from twos:"
     )?;
     match project(rt.alloc()) {
         Ok(outcome) => print_outcome(&rt, &outcome),
