@@ -1,12 +1,12 @@
 #!/usr/bin/env python3
-"""Lists every public function and method of the libraries, with what pins its result and the must-fail edits that try it.
+"""Lists every public function and method of the libraries, with the clause on its result and the must-fail edits that try it.
 
-    tools/public_calls.py        prints a table in Markdown; fails where a result is not pinned or something is required
+    tools/public_calls.py        prints a table in Markdown; fails where no clause speaks of a result, or something is required
 
-A result is pinned by an `ensures` of the function itself, by that of the trait that it answers for, or, for the library's
-traits, by the ghost member that says what is answered (`from_gives`, `output`). An edit tries a function where it stands in
-its code, or in that of a type that answers for an interface, or in that of a function of the same crate which it calls:
-these are put in brackets.
+A clause speaks of a result where the function has an `ensures` of its own or that of the trait that it answers for, or, for
+the library's traits, the ghost member that says what is answered (`from_gives`, `output`). That the clause fixes the result
+is for the reader to see. An edit tries a function where it stands in its code, or in that of a type that answers for an
+interface, or in that of a function which it calls and whose name is the only one in the crate: these are put in brackets.
 """
 import pathlib
 import re
@@ -31,19 +31,20 @@ class Function:
     body: str
     edits: list = field(default_factory=list)
 
-    def reached(self):
-        """Whether another crate can call it."""
-        return self.public or self.block.startswith("pub trait") or " for " in self.block
+    def reached(self, private):
+        """Whether another crate can call it, where these types are private to the crate."""
+        answering = re.search(r" for &?(\w+)", self.block)
+        return self.public or self.block.startswith("pub trait") or " for " in self.block and not (answering and answering[1] in private)
 
     def shown(self):
         of = re.sub(r"<.*?>(?= |$)", "", self.block.removeprefix("pub ").rstrip(" {")).strip()
         return f"`{self.name}`" + (f" of `{of}`" if of else "")
 
-    def pinned(self):
-        """By what its result is pinned, or nothing."""
+    def promised(self):
+        """What speaks of its result, or nothing."""
         if re.search(r"^\s*ensures", self.head, re.M):
             return "its `ensures`"
-        answered = re.search(r"\b(\w+)(?:<.*>)? for ", self.block)
+        answered = re.search(r"\b(\w+)(?:<[^ ]*>)? for ", self.block)
         if not answered:
             return ""
         ghost = GHOSTS.get(answered[1])
@@ -87,9 +88,13 @@ def functions(file, crate):
 
 def edits(crate):
     for file in sorted((crate / "must-fail").glob("*.edit")):
-        pairs = re.findall(r"^file: (.*)\nold: (.*)$", file.read_text(), re.M)
-        for path, old in pairs:
-            yield file.stem, path, old
+        path = ""
+        for line in file.read_text().splitlines():
+            key, _, text = line.partition(": ")
+            if key == "file":
+                path = text
+            elif key == "old":
+                yield file.stem, path, text
 
 
 def tried(function, all_functions, depth=2):
@@ -97,7 +102,8 @@ def tried(function, all_functions, depth=2):
     if depth == 0:
         return set()
     called = {g.name for g in all_functions if re.search(rf"\b{g.name}\(", function.body)}
-    below = [g for g in all_functions if g.name in called and g is not function]
+    names = [g.name for g in all_functions]
+    below = [g for g in all_functions if g.name in called and names.count(g.name) == 1 and g is not function]
     return set().union(*(set(g.edits) | tried(g, all_functions, depth - 1) for g in below), set())
 
 
@@ -112,26 +118,28 @@ def of_answers(function, all_functions):
 
 def main():
     wrong = []
-    print("| crate | public function | pinned by | must-fail edits, its own and [of what it calls] |")
+    print("| crate | public function | its result is spoken of by | must-fail edits, its own and [of what it calls] |")
     print("|---|---|---|---|")
     for line in (TOP.parent / "crates.txt").read_text().splitlines():
         name = line.split(":")[0].strip()
         crate = TOP / name
         if not name or name.startswith("#") or name in TESTS or not (crate / "src" / "lib.rt").exists():
             continue
-        known = [f for file in sorted((crate / "src").glob("**/*.rt")) for f in functions(file, crate)]
+        files = sorted((crate / "src").glob("**/*.rt"))
+        private = {t for file in files for t in re.findall(r"^(?:struct|enum) (\w+)", file.read_text(), re.M)}
+        known = [f for file in files for f in functions(file, crate)]
         for edit, path, old in edits(crate):
             for function in known:
                 if function.file == path and old in function.head + "\n" + function.body:
                     function.edits.append(edit)
         for function in known:
-            if not function.reached():
+            if not function.reached(private):
                 continue
-            pinned = function.pinned()
+            promised = function.promised()
             own = function.edits or of_answers(function, known)
             below = "" if own else ", ".join(sorted(tried(function, known)))
-            print(f"| {name} | {function.shown()} | {pinned or 'NOTHING'} | {', '.join(own)}{f'[{below}]' if below else ''} |")
-            if not pinned:
+            print(f"| {name} | {function.shown()} | {promised or 'NOTHING'} | {', '.join(own)}{f'[{below}]' if below else ''} |")
+            if not promised:
                 wrong.append(f"{name}: {function.shown()} promises nothing of its result")
             if re.search(r"^\s*requires", function.head, re.M):
                 wrong.append(f"{name}: {function.shown()} requires something")

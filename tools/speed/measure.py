@@ -5,8 +5,8 @@
     tools/speed/measure.py growth [--rounds N]              how the library's time grows with panel and heights
 
 A CASE is the arguments of both programs in quotes, such as "128 8 128 128 uneven". `compare` also fails where the two
-print different results. The program `bench` must have been built: (cd crates/bench && rt run). yardstick.c is compiled by
-`gcc -O3` into a temporary folder. What is printed are tables in Markdown.
+print different results. The program `bench` must have been built from the sources as they are: (cd crates/bench && rt run).
+yardstick.c is compiled by `gcc -O3` into a temporary folder. What is printed are tables in Markdown.
 """
 
 import argparse
@@ -46,9 +46,9 @@ def compared(yardstick, case, rounds):
     for _ in range(rounds):
         theirs.append(run(yardstick, case))
         ours.append(run(BENCH, case))
-    results = [results for _, _, results in ours + theirs]
-    if any(other != results[0] for other in results):
-        sys.exit(f"different results for {case}: {results}")
+    printed = [results for _, _, results in ours + theirs]
+    if any(other != printed[0] for other in printed):
+        sys.exit(f"different results for {case}: {printed}")
     return medians(ours), medians(theirs)
 
 
@@ -68,7 +68,7 @@ def compare(cases, rounds):
 
 
 def grown(title, cases, rounds):
-    """A table of cases of which each has twice the cells of the one before."""
+    """A table of cases, each beside the one before."""
     print(f"\n| {title} | arguments | forward | times the last | back | times the last |")
     print("|---|---|---|---|---|---|")
     runs = {case: [] for _, case in cases}
@@ -97,6 +97,8 @@ def main():
     parser.add_argument("cases", nargs="*", default=CASES, metavar="CASE")
     parser.add_argument("--rounds", type=int, default=9)
     arguments = parser.parse_intermixed_args()
+    if arguments.what == "growth" and arguments.cases is not CASES:
+        parser.error("growth takes no cases")
     if not BENCH.exists():
         sys.exit(f"{BENCH} is not there: (cd crates/bench && rt run)")
     if arguments.what == "compare":

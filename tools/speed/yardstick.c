@@ -110,7 +110,7 @@ static u64 hash(u64 h, const u64 *values, size_t n)
 
 static void tell(const char *name, double updates, double seconds)
 {
-    printf("%s %.3f s %.0f million voxel updates a second\n", name, seconds, updates / 1e6 / seconds);
+    printf("%s %.6f s %.0f million voxel updates a second\n", name, seconds, updates / 1e6 / seconds);
 }
 
 int main(int argc, char **argv)
@@ -124,6 +124,10 @@ int main(int argc, char **argv)
         if (!strcmp(argv[i], "uneven")) is_uneven = 1;
         else if (!strcmp(argv[i], "timed")) timed = 1;
         else if (sscanf(argv[i], "heights=%d", &heights) != 1) { fprintf(stderr, "what is %s?\n", argv[i]); return 1; }
+    }
+    if (side < 1 || side > 512 || heights < 1 || heights > 512 || p.columns < 1 || p.columns > 512 || p.rows < 1 || p.rows > 512) {
+        fprintf(stderr, "an axis has 1 to 512 cells\n");
+        return 1;
     }
     p.nx = p.ny = side;
     p.nz = heights;

@@ -1,5 +1,5 @@
 // What the program is asked to sweep.
-use anyhow::{Context, Result, bail};
+use anyhow::{Context, Result};
 use std::env::{Args, Env};
 use std::{env, fmt};
 
@@ -28,6 +28,7 @@ pub(crate) struct Arguments {
 impl Arguments {
     pub(crate) fn read(rt: &(impl Env + AllocGlobal)) -> Result<Arguments> {
         let mut words = env::args(rt)?;
+        // The first is the program's name.
         words.next();
         let side = next_number(&mut words)?;
         let mut arguments = Arguments {
@@ -93,5 +94,46 @@ impl fmt::Display for Arguments {
             f,
             "voxels {side} {side} {heights} {grid} panel {columns} {rows} views {views}"
         )
+    }
+}
+
+#[cfg(test)]
+mod tests {
+    use super::*;
+    use std::test::Fail;
+
+    const ASKED: Arguments = Arguments {
+        side: 8,
+        heights: 8,
+        views: 4,
+        columns: 16,
+        rows: 20,
+        grid: Grid::Even,
+        timed: false,
+    };
+
+    #[test]
+    fn an_optional_argument_alters_its_own_alone(rt: HostRuntime) -> Result<(), Fail> {
+        let uneven = ASKED.with("uneven")?;
+        assert_eq!(rt;
+            (uneven.grid, uneven.timed, uneven.heights),
+            (Grid::Uneven, false, 8)
+        );
+        let timed = ASKED.with("timed")?;
+        assert_eq!(rt;
+            (timed.grid, timed.timed, timed.heights),
+            (Grid::Even, true, 8)
+        );
+        let low = ASKED.with("heights=3")?;
+        assert_eq!(rt; (low.grid, low.timed, low.heights), (Grid::Even, false, 3));
+        assert!(rt; ASKED.with("height=3").is_err());
+        Ok(())
+    }
+
+    #[test]
+    fn arguments_print_as_the_c_program_prints_them(rt: HostRuntime) -> Result<(), Fail> {
+        let text = format!(in rt.alloc(); "{}", ASKED.with("uneven")?)?;
+        assert_eq!(rt; text.as_str(), "voxels 8 8 8 uneven panel 16 20 views 4");
+        Ok(())
     }
 }

@@ -3,10 +3,10 @@ use values::count::Count;
 
 // The hash of the cells of all views, and then of the voxels.
 pub(crate) fn of(working: &[Count], volume: &[Count]) -> u64 {
-    followed(followed(0, working), volume)
+    continued(continued(0, working), volume)
 }
 
-fn followed(hash: u64, results: &[Count]) -> u64 {
+fn continued(hash: u64, results: &[Count]) -> u64 {
     results.iter().fold(hash, |hash, value| {
         hash.wrapping_mul(31).wrapping_add(value.bits)
     })

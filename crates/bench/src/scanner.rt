@@ -1,4 +1,4 @@
-// The scan that is swept: a cube of voxels before a panel that sees all of it.
+// The scan that is swept: a cube of voxels before a panel that sees all but its corners.
 use crate::arguments::{Arguments, Grid};
 use scan::axis::Axis;
 use scan::draft::Draft;
@@ -10,14 +10,16 @@ use scan::refusal::Refusal;
 use std::alloc::{AllocError, Global};
 use values::count::Count;
 
-// How far the source and the panel stand.
+// D, from the source to the rotation axis.
 const SOURCE: i32 = 1_000_000;
 
+// F, from the source to the panel.
 const PANEL: i32 = 1_536_000;
 
-// Half the width of the volume, and of the panel, about the middle.
+// Half the width of the volume.
 const VOLUME_HALF: i32 = 128_000;
 
+// Half the width of the panel.
 const PANEL_HALF: i32 = 256_000;
 
 // The views go round the full turn of 64 steps.
@@ -74,8 +76,8 @@ fn uneven(heap: Global, cells: u16) -> Result<ListedAxis, Failure> {
     ListedAxis::new(heap, &edges)
 }
 
-// An edge, whose distance from the middle grows as the square of its number from there. It would wrap only where there
-// are more cells than an axis has.
+// An edge, whose distance from the middle grows as the square of its number from there. None of these products leaves 32
+// bits; that they would wrap spares the proof of it.
 fn uneven_edge(i: u16, half: u16) -> i32 {
     let steps = i32::from(i) - i32::from(half);
     let widest = i32::from(half).wrapping_mul(i32::from(half));

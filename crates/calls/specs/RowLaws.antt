@@ -22,13 +22,13 @@ unfoldable pub multiplied : {V : Type 0} → Ops V → System → V → Stores V
 multiplied o s c a =
     three (times_of o (voxels s) c a.volume) (times_of o (places s) c a.measured) (times_of o (places s) c a.working)
 
--- The mirrored row is the transpose: the inner product of a row's outcome with test stores is that of the start with the mirrored row's outcome from the test stores.
+-- The mirrored row is the transpose: the inner product of a row's outcome with test stores is that of the start with the mirrored row's outcome from the test stores, for stores of the system's lengths.
 abbrev pub Matched : {V : Type 0} → Ops V → System → Type 0
 Matched {V} o s =
     (row : List (Call V)) (start test : Stores V) → Fits s start → Fits s test
     → inner o s (outcome o s row start) test ≡ inner o s start (outcome o s (mirrored row) test)
 
--- The outcome is linear in the start: that of a sum of starts is the sum of their outcomes, and that of a start times a value is its outcome times the value.
+-- The outcome is linear in the start: that of a sum of starts is the sum of their outcomes, and that of a start times a value is its outcome times the value, for stores of the system's lengths.
 pub record Linear {V : Type 0} (o : Ops V) (s : System) : Type 0 where
   pub sums : (row : List (Call V)) (a b : Stores V) → Fits s a → Fits s b → outcome o s row (added o s a b) ≡ added o s (outcome o s row a) (outcome o s row b)
   pub multiples : (row : List (Call V)) (c : V) (a : Stores V) → Fits s a → outcome o s row (multiplied o s c a) ≡ multiplied o s c (outcome o s row a)

@@ -43,8 +43,8 @@ module _ {A B a b : ℤ} (main : Reads A a 16384) (side : Reads B b 16384) where
   ray_made : {X F : ℤ} → Reads X F (2 ^ 26) → Makes (X *ℤ A) (F *ℤ a) (2 ^ 40)
   ray_made f = times f main (lit< tt)
 
-  pub slant_made : {X Y F k : ℤ} → Reads X F (2 ^ 26) → Reads Y k 8388608 → Makes (again (X *ℤ A) -ℤ again (Y *ℤ B)) (F *ℤ a -ℤ k *ℤ b) (2 ^ 40 + 2 ^ 37)
-  slant_made f k = minus (read (ray_made f)) (read (across_made k)) (lit< tt)
+  pub panel_depth_made : {X Y F k : ℤ} → Reads X F (2 ^ 26) → Reads Y k 8388608 → Makes (again (X *ℤ A) -ℤ again (Y *ℤ B)) (F *ℤ a -ℤ k *ℤ b) (2 ^ 40 + 2 ^ 37)
+  panel_depth_made f k = minus (read (ray_made f)) (read (across_made k)) (lit< tt)
 
 -- of an operand X that is the distance D
 module _ {X D : ℤ} (source : Reads X D (2 ^ 24)) where

@@ -2,7 +2,7 @@
 use Rattle.std.proofs.Common.{◌<◌, ℤ, pos, ◌-ℤ◌, ◌*ℤ◌, nat_abs, mul-le-mul_left, mul-lt-mul_of_pos_right, arith}
 use Rattle.std.proofs.lemmas.Int.{unsigned_abs-mul}
 use borrow.Author.Differences.{ints}
-use Rattle.geometry.specs.Landed.{depth, slant}
+use Rattle.geometry.specs.Landed.{depth, panel_depth}
 use Rattle.geometry.proofs.Size.{abs_times_3, SameSide, lead_side, times_side, side_trans}
 use Rattle.geometry.specs.Steep.{Steep}
 use Rattle.geometry.proofs.Conditions.{Placed, Reached, Beside}
@@ -20,9 +20,9 @@ depth_beside D a b Q p s =
     (times_side (pos 2 *ℤ D) a (omega (arith, ints)))
     (omega (arith, abs_times_3 (pos 2) D a, unsigned_abs-mul (pos 16384) Q, mul-le-mul_left (nat_abs D) s.least))
 
-pub slant_beside : (F a b k : ℤ) → Reached F k → Steep a b → Beside a (slant F a b k)
-unfolding slant
-slant_beside F a b k p s =
+pub panel_depth_beside : (F a b k : ℤ) → Reached F k → Steep a b → Beside a (panel_depth F a b k)
+unfolding panel_depth
+panel_depth_beside F a b k p s =
     let some : 0 < nat_abs a = omega (arith, s.least) in
     beside_minus a (F *ℤ a) (k *ℤ b) (times_side F a p.some)
     (omega (arith, unsigned_abs-mul F a, unsigned_abs-mul k b, mul-le-mul_left (nat_abs k) s.side, mul-lt-mul_of_pos_right p.near some))

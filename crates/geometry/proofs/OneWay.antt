@@ -4,11 +4,11 @@ use lib.IntN.{*ℤ_comm}
 use borrow.Author.Differences.{ints}
 use Rattle.std.proofs.lemmas.Int.{by_lt_z}
 use Rattle.geometry.specs.Floor.{floor_div}
-use Rattle.geometry.specs.Landed.{slant, cross_edge, height_edge, column_edge, row_edge}
+use Rattle.geometry.specs.Landed.{panel_depth, cross_edge, height_edge, column_edge, row_edge}
 use Rattle.geometry.proofs.FloorLaws.{floor_rises, floor_falls, floor_cross, floor_cross_below}
 use Rattle.geometry.proofs.Products.{*ℤ-assoc, *ℤ--ℤ, times_up, times_down, times_left}
 use Rattle.geometry.proofs.Size.{times_side}
-use Rattle.geometry.proofs.Divisors.{depth_beside, slant_beside}
+use Rattle.geometry.proofs.Divisors.{depth_beside, panel_depth_beside}
 use Rattle.geometry.specs.Steep.{Steep}
 use Rattle.geometry.proofs.Conditions.{Placed, Reached, Beside}
 
@@ -48,12 +48,12 @@ height_rises D a b Q p s y z h = quotients_rise _ _ _ a b (depth_beside D a b Q 
 
 pub row_rises : (D F a b K : ℤ) → pos 0 <ℤ D → Reached (pos 2 *ℤ F) K → Steep a b → (g h : ℤ) → g ≤ℤ h → row_edge D F a b K g ≤ℤ row_edge D F a b K h
 unfolding row_edge
-row_rises D F a b K p r s g h l = quotients_rise _ _ _ a b (slant_beside (pos 2 *ℤ F) a b K r s) s (scaled D a g h p l)
+row_rises D F a b K p r s g h l = quotients_rise _ _ _ a b (panel_depth_beside (pos 2 *ℤ F) a b K r s) s (scaled D a g h p l)
 
 module _ (D F a b k l : ℤ) (some : pos 0 <ℤ D) (p : Reached F k) (q : Reached F l) (s : Steep a b) (h : k ≤ℤ l) where
   -- k (F a - l b) = k F a - k l b
-  opened : (x y : ℤ) → (D *ℤ pos 16384 *ℤ x) *ℤ slant F a b y ≡ (D *ℤ pos 16384) *ℤ (x *ℤ (F *ℤ a) -ℤ x *ℤ (y *ℤ b))
-  unfolding slant
+  opened : (x y : ℤ) → (D *ℤ pos 16384 *ℤ x) *ℤ panel_depth F a b y ≡ (D *ℤ pos 16384) *ℤ (x *ℤ (F *ℤ a) -ℤ x *ℤ (y *ℤ b))
+  unfolding panel_depth
   opened x y = *ℤ-assoc (D *ℤ pos 16384) x (F *ℤ a -ℤ y *ℤ b) ∙ ap (λ z. (D *ℤ pos 16384) *ℤ z) (*ℤ--ℤ x (F *ℤ a) (y *ℤ b))
 
   swapped : (x y : ℤ) → x *ℤ (y *ℤ b) ≡ y *ℤ (x *ℤ b)
@@ -63,7 +63,7 @@ module _ (D F a b k l : ℤ) (some : pos 0 <ℤ D) (p : Reached F k) (q : Reache
   scale = omega (arith, ints)
 
   -- the quotients of x and y, told by products
-  crossed : (x y : ℤ) → (x *ℤ (F *ℤ a)) ≤ℤ (y *ℤ (F *ℤ a)) → ((D *ℤ pos 16384 *ℤ x) *ℤ slant F a b y) ≤ℤ ((D *ℤ pos 16384 *ℤ y) *ℤ slant F a b x)
+  crossed : (x y : ℤ) → (x *ℤ (F *ℤ a)) ≤ℤ (y *ℤ (F *ℤ a)) → ((D *ℤ pos 16384 *ℤ x) *ℤ panel_depth F a b y) ≤ℤ ((D *ℤ pos 16384 *ℤ y) *ℤ panel_depth F a b x)
   crossed x y w =
       let m : (x *ℤ (F *ℤ a) -ℤ x *ℤ (y *ℤ b)) ≤ℤ (y *ℤ (F *ℤ a) -ℤ y *ℤ (x *ℤ b)) = omega (arith, ints, swapped x y) in
       let n = times_left (D *ℤ pos 16384) _ _ scale m in
@@ -72,11 +72,11 @@ module _ (D F a b k l : ℤ) (some : pos 0 <ℤ D) (p : Reached F k) (q : Reache
   pub column_rises : pos 0 <ℤ a → column_edge D F a b k ≤ℤ column_edge D F a b l
   unfolding column_edge
   column_rises u =
-      floor_cross _ _ _ _ ((slant_beside F a b k p s).above u) ((slant_beside F a b l q s).above u)
+      floor_cross _ _ _ _ ((panel_depth_beside F a b k p s).above u) ((panel_depth_beside F a b l q s).above u)
       (crossed k l (times_up (F *ℤ a) k l ((times_side F a p.some).0 u) h))
 
   pub column_falls : a <ℤ pos 0 → column_edge D F a b l ≤ℤ column_edge D F a b k
   unfolding column_edge
   column_falls u =
-      floor_cross_below _ _ _ _ ((slant_beside F a b l q s).below u) ((slant_beside F a b k p s).below u)
+      floor_cross_below _ _ _ _ ((panel_depth_beside F a b l q s).below u) ((panel_depth_beside F a b k p s).below u)
       (crossed l k (times_down (F *ℤ a) k l ((times_side F a p.some).1 u) h))

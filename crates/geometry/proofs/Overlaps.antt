@@ -4,7 +4,7 @@ use lib.Signed.{≤ℤ_refl}
 use borrow.Author.Differences.{ints, up, down}
 use Rattle.std.specs.Int.{int_min, int_max}
 use Rattle.std.proofs.lemmas.Int.{clamps}
-use Rattle.geometry.specs.Overlap.{or_zero, overlap, overlaps, Conserved, EitherWay}
+use Rattle.geometry.specs.Overlap.{or_zero, overlap, overlaps, OverlapsAddUp, EitherWay}
 
 or_zero_is : (z : ℤ) → or_zero z ≡ up z - down z
 or_zero_is (pos n) = omega arith
@@ -51,7 +51,7 @@ module _ (u0 u1 : ℤ) where
         let t = falling (S n) (S (suc n)) s in
         (omega (arith, ints), omega (arith, ints))
 
-pub conserved : Conserved
+pub conserved : OverlapsAddUp
 conserved u0 u1 S n (inl h) = let r = up_to u0 u1 S n h in let t = rising u0 u1 (S 0) (S n) r.0 in omega (arith, ints)
 conserved u0 u1 S n (inr h) = let r = down_to u0 u1 S n h in let t = falling u0 u1 (S 0) (S n) r.0 in omega (arith, ints)
 

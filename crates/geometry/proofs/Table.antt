@@ -4,7 +4,8 @@ use Rattle.std.proofs.lemmas.Bool.{leb-true, le-leb, lt-leb, and_parts}
 use Rattle.std.proofs.lemmas.Bool.Decides.{Decides-below_and}
 use Rattle.geometry.specs.declared.direction.SlabAxis.{SlabAxis}
 use Rattle.geometry.specs.declared.direction.SlabAxis.TheVariants.{X, Y}
-use Rattle.geometry.specs.Turn.{sine, sin_of, cos_of, CircleRule, slabs_by, main_part, side_part, slab_axis, main_of, side_of}
+use Rattle.geometry.specs.Turn.{sine, sin_of, cos_of, CircleRule}
+use Rattle.geometry.specs.Directions.{slabs_by, main_part, side_part, slab_axis, main_of, side_of}
 use Rattle.geometry.specs.Steep.{Steep}
 
 -- the test passes at each number below n

@@ -1,5 +1,6 @@
 pub mod Steps
 pub mod Turn
+pub mod Directions
 pub mod Steep
 pub mod Admitted
 pub mod Floor

@@ -21,8 +21,8 @@ abbrev pub OneWay : (ℕ → ℤ) → ℕ → Type 0
 OneWay S n = ((k : ℕ) → k < n → S k ≤ℤ S (suc k)) ⊎ ((k : ℕ) → k < n → S (suc k) ≤ℤ S k)
 
 -- The overlaps with stretches that follow one another one way add up to the overlap with the whole.
-abbrev pub Conserved : Type 0
-Conserved = (u0 u1 : ℤ) (S : ℕ → ℤ) (n : ℕ) → OneWay S n → overlaps u0 u1 S n ≡ overlap u0 u1 (S 0) (S n)
+abbrev pub OverlapsAddUp : Type 0
+OverlapsAddUp = (u0 u1 : ℤ) (S : ℕ → ℤ) (n : ℕ) → OneWay S n → overlaps u0 u1 S n ≡ overlap u0 u1 (S 0) (S n)
 
 -- Which end of a stretch comes first does not matter to the overlap.
 abbrev pub EitherWay : Type 0

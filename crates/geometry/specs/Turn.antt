@@ -1,7 +1,5 @@
--- The sine s and the cosine c of a step, in 16384ths, and the slab axis and direction (a, b) that they give. A step is 5.625 degrees, counter-clockwise from the y axis.
-use Rattle.std.specs.Prelude.{ℕ, zero, suc, ◌-◌, ◌/◌, ◌%◌, ◌^◌, ◌≤◌, if◌then◌else◌, List, [], ◌∷◌, ℤ, pos, ◌+ℤ◌, ◌-ℤ◌, ◌*ℤ◌, neg_ℤ, nat_le, slice_index_or, unsigned_abs}
-use Rattle.geometry.specs.declared.direction.SlabAxis.{SlabAxis}
-use Rattle.geometry.specs.declared.direction.SlabAxis.TheVariants.{X, Y}
+-- The sine s and the cosine c of a step, in 16384ths. A step is 5.625 degrees, counter-clockwise from the y axis.
+use Rattle.std.specs.Prelude.{ℕ, zero, suc, ◌-◌, ◌/◌, ◌%◌, ◌^◌, ◌≤◌, List, [], ◌∷◌, ℤ, pos, ◌+ℤ◌, ◌-ℤ◌, ◌*ℤ◌, neg_ℤ, slice_index_or, unsigned_abs}
 
 -- The sines of the steps 0 to 16 of a quarter turn.
 abbrev pub sines : List ℤ
@@ -31,29 +29,3 @@ cos_of q = in_quarter (q / 16) (sine (16 - q % 16)) (neg_ℤ (sine (q % 16))) (n
 -- The circle rule: c² + s² differs from 2^28 by at most 17,126.
 abbrev pub CircleRule : ℤ → ℤ → Type 0
 CircleRule s c = unsigned_abs (c *ℤ c +ℤ s *ℤ s -ℤ pos (2 ^ 28)) ≤ 17126
-
--- The slabs are the cells of the axis along which the central ray runs more: of y where |s| <= |c|, so at a tie too, and else of x.
-abbrev pub slabs_by : ℤ → ℤ → SlabAxis
-slabs_by s c = if nat_le (unsigned_abs s) (unsigned_abs c) then Y else X
-
--- a: c where the slabs are the cells of y, and s where they are the cells of x.
-abbrev pub main_part : SlabAxis → ℤ → ℤ → ℤ
-main_part Y s c = c
-main_part X s c = s
-
--- b: s where the slabs are the cells of y, and -c where they are the cells of x.
-abbrev pub side_part : SlabAxis → ℤ → ℤ → ℤ
-side_part Y s c = s
-side_part X s c = neg_ℤ c
-
--- The slab axis of a step.
-unfoldable pub slab_axis : ℕ → SlabAxis
-slab_axis q = slabs_by (sin_of q) (cos_of q)
-
--- a of a step.
-unfoldable pub main_of : ℕ → ℤ
-main_of q = main_part (slab_axis q) (sin_of q) (cos_of q)
-
--- b of a step.
-unfoldable pub side_of : ℕ → ℤ
-side_of q = side_part (slab_axis q) (sin_of q) (cos_of q)

@@ -2,7 +2,7 @@
 // across the slab axis. Each landed edge is one division that rounds down.
 // No admitted plan makes a divisor 0; an edge whose divisor is 0 lands at 0.
 ghost use Rattle.std.specs.Prelude.{◌≡◌, ◌^◌, ◌≤◌, pos, ◌+ℤ◌, ◌*ℤ◌, unsigned_abs};
-ghost use Rattle.geometry.specs.Landed.{slab_sum, depth, slant, cross_edge, height_edge, column_edge, row_edge};
+ghost use Rattle.geometry.specs.Landed.{slab_sum, depth, panel_depth, cross_edge, height_edge, column_edge, row_edge};
 
 use crate::cell::Cell;
 use crate::direction::{Direction, R, SlabAxis};
@@ -91,8 +91,8 @@ impl Pose {
     pub fn column_edge(self, k: Edge) -> i64
         ensures { result ≡ column_edge self.distances.source self.distances.panel self.direction.a self.direction.b k.at }
     {
-        let slant = self.direction.slant(self.distances.panel, k.at);
-        floor_div(self.distances.column_dividend(k), slant)
+        let panel_depth = self.direction.panel_depth(self.distances.panel, k.at);
+        floor_div(self.distances.column_dividend(k), panel_depth)
     }
 
     /// Where the edge g of a panel row lands, from the middle of a column.
@@ -100,8 +100,10 @@ impl Pose {
         ensures { result ≡ row_edge self.distances.source self.distances.panel self.direction.a self.direction.b (column.low.at +ℤ column.high.at) g.at }
     {
         let middle = column.middle();
-        let slant = self.direction.slant(2 * self.distances.panel, middle.twice);
-        floor_div(self.height_dividend(g), slant)
+        let panel_depth = self
+            .direction
+            .panel_depth(2 * self.distances.panel, middle.twice);
+        floor_div(self.height_dividend(g), panel_depth)
     }
 }
 
@@ -118,10 +120,10 @@ impl Distances {
 impl Direction {
     // The divisor of S: R times the signed distance along the slab axis between the source and the point k of the panel.
     // That of T is 2R times the distance at the column's middle, as both the panel's distance and k are then doubled.
-    fn slant(self, panel: i64, k: i64) -> i64
+    fn panel_depth(self, panel: i64, k: i64) -> i64
         requires panel { unsigned_abs panel ≤ 2 ^ 26 }
         requires edge { unsigned_abs k ≤ 8388608 }
-        ensures value { result ≡ slant panel self.a self.b k }
+        ensures value { result ≡ panel_depth panel self.a self.b k }
         ensures within { unsigned_abs result ≤ 2 ^ 41 }
     {
         panel * self.a - k * self.b

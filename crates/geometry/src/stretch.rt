@@ -1,7 +1,7 @@
 // A stretch of an axis.
 ghost use Rattle.std.specs.Prelude.{◌≡◌, ◌-ℤ◌, ◌≤ℤ◌};
 ghost use Rattle.std.specs.Int.{int_min, int_max};
-ghost use Rattle.geometry.specs.Overlap.{or_zero, overlap, Conserved, EitherWay};
+ghost use Rattle.geometry.specs.Overlap.{or_zero, overlap, OverlapsAddUp, EitherWay};
 
 /// What lies between two ends of an axis, the lower end first.
 #[derive(Clone, Copy, PartialEq, Eq, Debug)]
@@ -34,7 +34,7 @@ impl Stretch {
     /// its overlap with the whole: nothing is lost or counted twice. Which end of a stretch comes first does not matter.
     pub fn overlap(self, other: Stretch) -> u64
         ensures value { result ≡ overlap self.low self.high other.low other.high }
-        ensures conserved { Conserved }
+        ensures conserved { OverlapsAddUp }
         ensures either_way { EitherWay }
     {
         gap(self.low.max(other.low), self.high.min(other.high))

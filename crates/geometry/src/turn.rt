@@ -1,6 +1,7 @@
 // The turn table: the direction of a view from its step.
 ghost use Rattle.std.specs.Prelude.{◌≡◌, ◌<◌, ◌≤◌, unsigned_abs};
-ghost use Rattle.geometry.specs.Turn.{sine, sin_of, cos_of, CircleRule, slab_axis, main_of, side_of};
+ghost use Rattle.geometry.specs.Turn.{sine, sin_of, cos_of, CircleRule};
+ghost use Rattle.geometry.specs.Directions.{slab_axis, main_of, side_of};
 
 use crate::direction::{Direction, Heading, SlabAxis};
 use crate::step::Step;

@@ -14,7 +14,7 @@ number (Incomplete p) = 1
 number (Trailing p) = 3
 number (Refused placed) = refusal_number placed.refusal
 
--- The place of each fault: the byte at which what is refused begins.
+-- The place of each fault: the byte at which what is refused begins, and 0 for a store of another length.
 abbrev pub place : Fault → ℕ
 place (Incomplete p) = p
 place (Trailing p) = p
@@ -25,12 +25,12 @@ abbrev pub refused_at : ℕ → Refusal → Fault
 refused_at p refusal = Refused (record { refusal = refusal; place = p })
 
 -- What is printed of a number and a place.
-abbrev pub told_text : ℕ → ℕ → List ℕ
-told_text n p = codes "refused " ++ decimal n ++ codes " at " ++ decimal p
+abbrev pub refused_text : ℕ → ℕ → List ℕ
+refused_text n p = codes "refused " ++ decimal n ++ codes " at " ++ decimal p
 
 -- What is printed of a fault.
 abbrev pub fault_text : Fault → List ℕ
-fault_text fault = told_text (number fault) (place fault)
+fault_text fault = refused_text (number fault) (place fault)
 
 -- What is printed where a plan was not read: the fault, or that there is no memory.
 abbrev pub failure_text : ReadFailure → List ℕ

@@ -22,7 +22,7 @@ whole_check bytes p = refused_where (nat_lt (length bytes) (p + 4)) (Incomplete 
 abbrev pub numbers_check : List ℕ → ℕ → ℕ → Option Fault
 numbers_check bytes p n = option_map (λ i. Incomplete (p + 4 * i)) (first_where (λ i. nat_lt (length bytes) (p + 4 * i + 4)) n)
 
--- The section at place p, whose count has these limits, checks 1 for its count, 2 for a count outside the limits, and 1 for its numbers.
+-- Of the section at place p, whose count has these limits, 1 is checked for its count, 2 for a count outside the limits, and 1 for its numbers.
 unfoldable pub section_check : List ℕ → ℕ → ℕ → ℕ → Option Fault
 section_check bytes p least most =
     option_or (whole_check bytes p)
@@ -32,12 +32,12 @@ section_check bytes p least most =
 abbrev pub refused_in : ℕ → Refusal → Fault
 refused_in p refusal = refused_at (place_of p (edge_number refusal)) refusal
 
--- The section of the distances has two numbers, and then checks 6 for D and 6 for F.
+-- The section of the distances has two numbers, of which then 6 for D and 6 for F are checked.
 unfoldable pub distances_section : List ℕ → ℕ → Option Fault
 distances_section bytes p =
     option_or (section_check bytes p 2 2) (option_map (refused_in p) (distances_check (entry bytes p 0) (entry bytes p 1)))
 
--- The section of an axis has 2 to 513 edges, and then checks 5 and then 4.
+-- The section of an axis has 2 to 513 edges, of which 5 and then 4 are checked.
 unfoldable pub axis_section : List ℕ → ℕ → Option Fault
 axis_section bytes p = option_or (section_check bytes p 2 513) (option_map (refused_in p) (edges_check (section_at bytes p)))
 
@@ -45,13 +45,13 @@ axis_section bytes p = option_or (section_check bytes p 2 513) (option_map (refu
 abbrev pub first_no_step : List ℤ → Option ℕ
 first_no_step zs = first_where (λ i. no_step (edge_or_zero zs i)) (length zs)
 
--- The section of the steps has 0 to 1,024, and then checks 9 for the first that is no step.
+-- The section of the steps has 0 to 1,024, of which then 9 is checked, for the first that is no step.
 unfoldable pub steps_section : List ℕ → ℕ → Option Fault
 steps_section bytes p =
     option_or (section_check bytes p 0 1024)
     (option_map (λ i. refused_at (place_of p i) (StepOutOfRange (entry bytes p i))) (first_no_step (section_at bytes p)))
 
--- The distances and axes together check 7, at D, and then 8, at the first such edge of the columns.
+-- Of the distances and axes together 7 is checked, at D, and then 8, at the first such edge of the columns.
 unfoldable pub clearance : List ℕ → Option Fault
 clearance bytes =
     option_or (option_map (refused_in (start bytes 0)) (source_check (entry bytes (start bytes 0) 0) (section_at bytes (start bytes 1)) (section_at bytes (start bytes 2))))
@@ -70,12 +70,12 @@ axes_check bytes =
 unfoldable pub plan_check : List ℕ → Option Fault
 plan_check bytes = option_or (axes_check bytes) (option_or (clearance bytes) (steps_section bytes (start bytes 6)))
 
--- The values of n voxels, whose section begins at place p, check 1 for their count, 2 for a count other than n, 1 for the values, and 3 for bytes that follow.
+-- Of the values of n voxels, whose section begins at place p, 1 is checked for their count, 2 for a count other than n, 1 for the values, and 3 for bytes that follow.
 abbrev pub voxels_check : List ℕ → ℕ → ℕ → Option Fault
 voxels_check bytes p n =
     option_or (section_check bytes p n n) (refused_where (nat_lt (end_of bytes p) (length bytes)) (Trailing (end_of bytes p)))
 
--- Reading them into a store checks the same, and then 23 for a store of another length than n.
+-- Where they are read into a store the same is checked, and then 23 for a store of another length than n.
 unfoldable pub values_check : List ℕ → ℕ → ℕ → ℕ → Option Fault
 values_check bytes p n store =
     option_or (voxels_check bytes p n) (refused_where (not (store == n)) (refused_at 0 (StoreLength Volume store n)))

@@ -5,7 +5,7 @@ use Rattle.planfile.specs.Sections.{section_at, entry, start}
 use Rattle.values.specs.Counts.{count_of}
 use Rattle.values.specs.declared.count.Count.{Count}
 
--- The scan that bytes hold, section by section: D and F, the edges of x, y, z, the columns and the rows, and the steps.
+-- The scan that bytes hold, section by section: D and F, the edges of x, y, z, the columns and the rows, and the steps, without a sign, which no step of an accepted plan has.
 unfoldable pub scan_in : List ℕ → Scan
 scan_in bytes =
     record {

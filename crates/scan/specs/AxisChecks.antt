@@ -10,7 +10,7 @@ use Rattle.scan.specs.declared.refusal.Refusal.TheVariants.{Count, NotRising, Ou
 abbrev pub edge_or_zero : List ℤ → ℕ → ℤ
 edge_or_zero es i = slice_index_or es i (pos 0)
 
--- The first edge whose size is above the limit.
+-- The first edge with |edge| above the limit.
 abbrev pub first_outside : ℕ → List ℤ → Option ℕ
 first_outside limit es = first_where (λ i. nat_lt limit (unsigned_abs (edge_or_zero es i))) (length es)
 
@@ -28,10 +28,10 @@ edges_check es =
 abbrev pub count_check : ℕ → ℕ → ℕ → Option Refusal
 count_check found least most = refused_where (nat_lt found least || nat_lt most found) (Count found least most)
 
--- An axis of even cells checks 2, 5, 4: it has 1 to 512 cells, and its edges lie in range and in order.
+-- Of an axis of even cells 2, 5, 4 are checked, in this order: it has 1 to 512 cells, and its edges lie in range and in order.
 abbrev pub even_check : ℤ → ℤ → ℕ → Option Refusal
 even_check first pitch cells = option_or (count_check cells 1 512) (edges_check (even_edges first pitch cells))
 
--- A listed axis checks 2, 5, 4: it has 2 to 513 edges, and they lie in range and in order.
+-- Of a listed axis 2, 5, 4 are checked, in this order: it has 2 to 513 edges, and they lie in range and in order.
 abbrev pub listed_check : List ℤ → Option Refusal
 listed_check es = option_or (count_check (length es) 2 513) (edges_check es)

@@ -6,7 +6,7 @@ use Rattle.scan.specs.Verdicts.{refused_where, first_where}
 use Rattle.scan.specs.declared.refusal.Refusal.{Refusal}
 use Rattle.scan.specs.declared.refusal.Refusal.TheVariants.{SourceDistance, PanelDistance, SourceTooNear, ColumnBeyond, StepOutOfRange, DraftFull}
 
--- The first edge whose size is the limit or above.
+-- The first edge with |edge| at the limit or above.
 abbrev pub first_beyond : ℕ → List ℤ → Option ℕ
 first_beyond limit es = first_where (λ i. nat_le limit (unsigned_abs (edge_of es i))) (length es)
 
@@ -24,11 +24,11 @@ source_check source x y = refused_where (nat_le (unsigned_abs source) (2 * wides
 abbrev pub columns_check : ℤ → List ℤ → Option Refusal
 columns_check panel column = option_map (λ i. ColumnBeyond i (edge_of column i) panel) (first_beyond (unsigned_abs panel) column)
 
--- A draft's distances and axes check 7 and then 8.
+-- Of a draft's distances and axes together 7 is checked, and then 8.
 abbrev pub clearance_check : ℤ → ℤ → List ℤ → List ℤ → List ℤ → Option Refusal
 clearance_check source panel x y column = option_or (source_check source x y) (columns_check panel column)
 
--- A draft checks 6 for D, 6 for F, 7, 8.
+-- Of a draft 6 for D, 6 for F, 7, 8 are checked, in this order.
 abbrev pub draft_check : ℤ → ℤ → List ℤ → List ℤ → List ℤ → Option Refusal
 draft_check source panel x y column = option_or (distances_check source panel) (clearance_check source panel x y column)
 
@@ -36,7 +36,7 @@ draft_check source panel x y column = option_or (distances_check source panel) (
 abbrev pub no_step : ℤ → Bool
 no_step step = int_lt step (pos 0) || int_lt (pos 63) step
 
--- Adding a view checks 9, a number that is no step, and then 21, a draft that has 1,024 views.
+-- Of a view to be added 9 is checked, a number that is no step, and then 21, a draft that has 1,024 views.
 abbrev pub view_check : ℕ → ℤ → Option Refusal
 view_check views step =
     option_or (refused_where (no_step step) (StepOutOfRange step))

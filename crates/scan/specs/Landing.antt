@@ -72,7 +72,7 @@ weight L x c =
 abbrev pub CellLimits : ℕ → Type 0
 CellLimits n = (1 ≤ n) × (n ≤ 512)
 
--- What holds of every view: along each axis there are 1 to 512 cells, U, W and T never go down, S goes one way, and U and W lie within 2^25 of 0.
+-- What holds of every view: along each axis there are 1 to 512 cells, U, W and T never go down, S goes one way, and U and W lie less than 2^25 from 0.
 pub record Sound (L : Landing) : Type 0 where
   pub slabs : CellLimits L.slabs
   pub crosses : CellLimits L.crosses

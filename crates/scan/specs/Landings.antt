@@ -6,10 +6,10 @@ use Rattle.std.proofs.lemmas.Int.{ints, by_lt_z, unsigned_abs-mul}
 use Rattle.geometry.specs.declared.direction.SlabAxis.{SlabAxis}
 use Rattle.geometry.specs.declared.direction.SlabAxis.TheVariants.{X, Y}
 use Rattle.geometry.specs.Landed.{slab_sum}
-use Rattle.geometry.specs.Turn.{slab_axis, main_of, side_of}
+use Rattle.geometry.specs.Directions.{slab_axis, main_of, side_of}
 use Rattle.geometry.proofs.Size.{abs_plus, abs_minus}
 use Rattle.geometry.proofs.Table.{all_steep}
-use Rattle.geometry.proofs.Divisors.{depth_beside, slant_beside}
+use Rattle.geometry.proofs.Divisors.{depth_beside, panel_depth_beside}
 use Rattle.geometry.proofs.OneWay.{cross_rises, height_rises, row_rises, column_rises, column_falls}
 use Rattle.geometry.proofs.Within.{cross_dividend, height_dividend, column_dividend, cross_within, height_within}
 use Rattle.geometry.proofs.Overlaps.{overlap_most}
@@ -18,7 +18,7 @@ use Rattle.scan.specs.Landing.{Landing, Sound, CellLimits, weight, cross_overlap
 use Rattle.scan.specs.Scans.{Scan}
 use Rattle.scan.specs.Limits.{Fitted}
 use Rattle.scan.specs.Views.{slab_edges, cross_edges, slab_sum_of, column_sum_of, landing_of, landing, step_of}
-use Rattle.scan.specs.Lands.{SafeDivisions, Lands}
+use Rattle.scan.specs.ViewFacts.{SafeDivisions, ViewFacts}
 use Rattle.scan.specs.Numbered.{edge_within, edge_rises}
 use Rattle.geometry.proofs.Conditions.{Placed, Reached}
 use Rattle.geometry.specs.Steep.{Steep}
@@ -99,17 +99,17 @@ module _ (scan : Scan) (fitted : Fitted scan) (along : SlabAxis) (a b : ℤ) (st
   positive : pos 0 <ℤ scan.source
   positive = (placed 0).some
 
-  pub divides : SafeDivisions scan along a b
-  divides =
+  pub safe : SafeDivisions scan along a b
+  safe =
       let far : unsigned_abs scan.source ≤ 2 ^ 24 = (placed 0).most in
       record {
         slab_divisor = λ j. (depth_beside scan.source a b (slab_sum_of scan along j) (placed j) steep).apart;
         cross_dividend = λ j i.
             cross_dividend scan.source a b (slab_sum_of scan along j) (edge_of (cross_edges scan along) i) far steep (middle_within j) (edge_within _ crosses_proper i);
         height_dividend = λ l. omega (arith, height_dividend scan.source a b (edge_of scan.z l) far steep (edge_within scan.z fitted.z l));
-        column_divisor = λ k. (slant_beside scan.panel a b (edge_of scan.column k) (reached k) steep).apart;
+        column_divisor = λ k. (panel_depth_beside scan.panel a b (edge_of scan.column k) (reached k) steep).apart;
         column_dividend = λ k. omega (arith, column_dividend scan.source (edge_of scan.column k) far (edge_within scan.column fitted.column k));
-        row_divisor = λ k. (slant_beside (pos 2 *ℤ scan.panel) a b (column_sum_of scan k) (middle_reached k) steep).apart;
+        row_divisor = λ k. (panel_depth_beside (pos 2 *ℤ scan.panel) a b (column_sum_of scan k) (middle_reached k) steep).apart;
         row_dividend = λ m. omega (arith, height_dividend scan.source a b (edge_of scan.row m) far steep (edge_within scan.row fitted.row m));
       }
 
@@ -159,7 +159,7 @@ module _ (L : Landing) (s : Sound L) where
   light x c =
       omega (arith, mul-le-mul (cross_light (slab_of L x) (cross_of L x) (c % L.columns)) (height_light (slab_of L x) (height_of L x) (c % L.columns) (c / L.columns)))
 
-pub lands : (scan : Scan) → Fitted scan → (v : ℕ) → Lands scan v
+pub lands : (scan : Scan) → Fitted scan → (v : ℕ) → ViewFacts scan v
 unfolding landing
 lands scan fitted v =
     let q = step_of scan v in
@@ -168,7 +168,7 @@ lands scan fitted v =
     record {
       sound = s;
       floors = floor_is;
-      divides = divides scan fitted (slab_axis q) (main_of q) (side_of q) steep;
+      safe = safe scan fitted (slab_axis q) (main_of q) (side_of q) steep;
       S_rises = S_rises scan fitted (slab_axis q) (main_of q) (side_of q) steep;
       S_falls = S_falls scan fitted (slab_axis q) (main_of q) (side_of q) steep;
       light = light (landing scan v) s;

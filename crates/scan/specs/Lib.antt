@@ -4,7 +4,7 @@ pub mod Meanings
 pub mod Limits
 pub mod Landing
 pub mod Views
-pub mod Lands
+pub mod ViewFacts
 pub mod Verdicts
 pub mod Refusals
 pub mod AxisChecks

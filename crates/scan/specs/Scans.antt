@@ -16,8 +16,8 @@ pub record Scan : Type 0 where
   pub steps : List ℕ
 
 -- A scan that has no views yet.
-abbrev pub unviewed : ℤ → ℤ → List ℤ → List ℤ → List ℤ → List ℤ → List ℤ → Scan
-unviewed source panel x y z column row =
+abbrev pub without_views : ℤ → ℤ → List ℤ → List ℤ → List ℤ → List ℤ → List ℤ → Scan
+without_views source panel x y z column row =
     record { source = source; panel = panel; x = x; y = y; z = z; column = column; row = row; steps = [] }
 
 -- A scan with more views at its end, of these steps.
@@ -51,9 +51,9 @@ abbrev pub voxels_of : Scan → ℕ
 voxels_of scan = cells_of scan.z * cells_of scan.y * cells_of scan.x
 
 -- The number of cells of the panel, in one view.
-abbrev pub panel_of : Scan → ℕ
-panel_of scan = cells_of scan.row * cells_of scan.column
+abbrev pub panel_cells_of : Scan → ℕ
+panel_cells_of scan = cells_of scan.row * cells_of scan.column
 
 -- The number of cells of all views.
 abbrev pub places_of : Scan → ℕ
-places_of scan = length scan.steps * panel_of scan
+places_of scan = length scan.steps * panel_cells_of scan

@@ -1,4 +1,4 @@
--- What a call answers that may be refused, and what it leaves. A check is none where nothing is refused, and else the refusal.
+-- What a call answers that may be refused, and what it leaves. A check is none where nothing is refused, and else the refusal; of checks joined by `option_or` the first that refuses is the answer.
 use Rattle.std.specs.List.{find, range_with_len}
 use Rattle.std.specs.Prelude.{ℕ, Option, ◌≡◌, Bool, if◌then◌else◌, Some, None, Ok, Err, Result}
 use Rattle.scan.specs.declared.failure.Failure.{Failure}

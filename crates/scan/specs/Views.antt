@@ -1,7 +1,7 @@
 -- Where the edges of a view of a scan land, and its weights.
 use Rattle.std.specs.Prelude.{ℕ, List, ℤ, ◌+ℤ◌, slice_index}
 use Rattle.geometry.specs.Landed.{slab_sum, cross_edge, height_edge, column_edge, row_edge}
-use Rattle.geometry.specs.Turn.{slab_axis, main_of, side_of}
+use Rattle.geometry.specs.Directions.{slab_axis, main_of, side_of}
 use Rattle.geometry.specs.declared.direction.SlabAxis.{SlabAxis}
 use Rattle.scan.specs.Axes.{cells_of, edge_of, low_of, high_of}
 use Rattle.scan.specs.Landing.{Landing, by_slabs, weight}
@@ -39,7 +39,7 @@ landing_of scan along a b =
       T = λ k m. row_edge scan.source scan.panel a b (column_sum_of scan k) (edge_of scan.row m);
     }
 
--- The step of view v.
+-- The step of view v; past the last view, 0.
 abbrev pub step_of : Scan → ℕ → ℕ
 step_of scan v = slice_index scan.steps v
 

@@ -2,7 +2,7 @@
 ghost use Rattle.std.specs.Prelude.{◌≡◌, length, Ok, Err, IfOk, unsigned_abs};
 ghost use Rattle.scan.specs.Verdicts.{Outcome};
 ghost use Rattle.scan.specs.DraftChecks.{draft_check, view_check};
-ghost use Rattle.scan.specs.Scans.{unviewed, with_view};
+ghost use Rattle.scan.specs.Scans.{without_views, with_view};
 ghost use Rattle.scan.specs.Limits.{Fitted};
 ghost use Rattle.scan.specs.Meanings.{draft_of, plan_of};
 
@@ -24,7 +24,7 @@ pub struct Draft {
 impl<X: Axis, Y: Axis, C: Axis> Accepted<'_, X, Y, C> {
     /// The draft with no views. It keeps the edges that the axes answer, and only memory can fail it.
     pub fn draft<Z: Axis, R: Axis>(self, heap: Global, z: &Z, row: &R) -> Result<Draft, AllocError>
-        ensures { IfOk result (λ d. draft_of d ≡ unviewed self.entry.distances.source self.entry.distances.panel (X.Axis.edges self.entry.x.now) (Y.Axis.edges self.entry.y.now) (Z.Axis.edges z.now) (C.Axis.edges self.entry.column.now) (R.Axis.edges row.now)) }
+        ensures { IfOk result (λ d. draft_of d ≡ without_views self.entry.distances.source self.entry.distances.panel (X.Axis.edges self.entry.x.now) (Y.Axis.edges self.entry.y.now) (Z.Axis.edges z.now) (C.Axis.edges self.entry.column.now) (R.Axis.edges row.now)) }
     {
         Ok(Draft {
             layout: Layout {
@@ -53,7 +53,7 @@ impl Draft {
         column: &C,
         row: &R,
     ) -> Result<Draft, Failure>
-        ensures { Outcome (draft_check source panel (X.Axis.edges x.now) (Y.Axis.edges y.now) (C.Axis.edges column.now)) (λ d. draft_of d ≡ unviewed source panel (X.Axis.edges x.now) (Y.Axis.edges y.now) (Z.Axis.edges z.now) (C.Axis.edges column.now) (R.Axis.edges row.now)) result }
+        ensures { Outcome (draft_check source panel (X.Axis.edges x.now) (Y.Axis.edges y.now) (C.Axis.edges column.now)) (λ d. draft_of d ≡ without_views source panel (X.Axis.edges x.now) (Y.Axis.edges y.now) (Z.Axis.edges z.now) (C.Axis.edges column.now) (R.Axis.edges row.now)) result }
     {
         // A check that may refuse, and then a making that only memory can fail.
         let distances = check_distances(source, panel)?;

@@ -1,7 +1,7 @@
 // A sealed scan, which never changes.
 ghost use Rattle.std.specs.Prelude.{◌≡◌, ◌≤◌, length};
 ghost use Rattle.scan.specs.Axes.{cells_of};
-ghost use Rattle.scan.specs.Scans.{edges_along, voxels_of, panel_of, places_of};
+ghost use Rattle.scan.specs.Scans.{edges_along, voxels_of, panel_cells_of, places_of};
 ghost use Rattle.scan.specs.Meanings.{plan_of};
 
 use crate::axis::Axis;
@@ -47,7 +47,7 @@ impl Plan {
 
     /// The number of panel cells in one view.
     pub fn cells(&self) -> usize
-        ensures value { result ≡ panel_of (plan_of self.now) }
+        ensures value { result ≡ panel_cells_of (plan_of self.now) }
         ensures most { result ≤ 262144 }
     {
         self.cells_along(ScanAxis::Row) * self.cells_along(ScanAxis::Column)

@@ -2,7 +2,7 @@
 ghost use Rattle.std.specs.Prelude.{◌≡◌, ◌<◌, ◌≤◌, length, Some, None};
 ghost use Rattle.scan.specs.Views.{slab_edges, cross_edges, landing_of, landing};
 ghost use Rattle.scan.specs.Meanings.{plan_of};
-ghost use Rattle.scan.specs.Lands.{Lands};
+ghost use Rattle.scan.specs.ViewFacts.{ViewFacts};
 ghost use Rattle.scan.specs.Fits.{fitted};
 ghost use Rattle.scan.specs.Landings;
 
@@ -26,7 +26,7 @@ pub struct View<'a> {
 impl Plan {
     /// The view of a number.
     pub fn view(&self, view: usize) -> Option<View<'_>>
-        ensures { elim result [ Some w ↦ (view < length (plan_of self.now).steps) × (⟦<View<'static> as Landed>⟧.landing w ≡ landing (plan_of self.now) view) × Lands (plan_of self.now) view | None ↦ length (plan_of self.now).steps ≤ view ] }
+        ensures { elim result [ Some w ↦ (view < length (plan_of self.now).steps) × (⟦<View<'static> as Landed>⟧.landing w ≡ landing (plan_of self.now) view) × ViewFacts (plan_of self.now) view | None ↦ length (plan_of self.now).steps ≤ view ] }
     {
         let step = *self.layout.views.get(view)?;
         Some(View {

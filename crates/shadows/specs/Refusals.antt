@@ -1,7 +1,7 @@
 -- The number, the place and the text of each reason why there is no shadow of a file.
 use Rattle.std.specs.Prelude.{ℕ, List}
 use Rattle.scan.specs.Refusals.{memory_text}
-use Rattle.planfile.specs.Faults.{number as fault_number, place as fault_place, told_text}
+use Rattle.planfile.specs.Faults.{number as fault_number, place as fault_place, refused_text}
 use Rattle.planfile.specs.declared.read_failure.ReadFailure.{ReadFailure}
 use Rattle.planfile.specs.declared.read_failure.ReadFailure.TheVariants as reading
 use Rattle.shadows.specs.declared.refusal.Refusal.{Refusal}
@@ -26,7 +26,7 @@ of_read reading.Memory = Memory
 
 -- What is printed of a refusal.
 abbrev pub refusal_text : Refusal → List ℕ
-refusal_text refusal = told_text (number refusal) (place refusal)
+refusal_text refusal = refused_text (number refusal) (place refusal)
 
 -- What is printed where a shadow was not made: the refusal, or that there is no memory.
 abbrev pub failure_text : Failure → List ℕ

@@ -48,7 +48,7 @@ pub record ShadowOf (scan : Scan) (volume : List Count) (shadow : Shadow) : Type
   pub cells : vec_items shadow.cells ≡ cells_seen scan volume
   pub hit : shadow.hit ≡ voxels_hit scan
 
--- What a step of making a shadow answers: a value of which P holds where the check finds nothing, and else what it finds; or that there is no memory, in which case `early` holds, since want of memory may show before all is checked.
+-- What making a shadow, or a part of it, answers: a value of which P holds where the check finds nothing, and else what it finds; or that there is no memory, in which case `early` holds, since want of memory may show before all is checked.
 abbrev pub ShadowOutcome : {A : Type 0} → Option Refusal → Type 0 → (A → Type 0) → Result A Failure → Type 0
 ShadowOutcome check early P (Ok value) = (check ≡ None) × P value
 ShadowOutcome check early P (Err (Refused refusal)) = check ≡ Some refusal

@@ -3,9 +3,9 @@ use Rattle.std.proofs.Common.{◌≡◌, ℕ, ◌+◌, ◌-◌, ◌<◌, List, l
 use borrow.Rule.Slice.PartMut.{put_mid}
 use Rattle.geometry.specs.declared.direction.SlabAxis.{SlabAxis}
 use Rattle.geometry.specs.declared.direction.SlabAxis.TheVariants.{X, Y}
-use Rattle.geometry.specs.Turn.{slab_axis, main_of, side_of}
+use Rattle.geometry.specs.Directions.{slab_axis, main_of, side_of}
 use Rattle.scan.specs.Landing.{Landing, voxels as landing_voxels, cells, weight}
-use Rattle.scan.specs.Scans.{Scan, voxels_of, panel_of}
+use Rattle.scan.specs.Scans.{Scan, voxels_of, panel_cells_of}
 use Rattle.scan.specs.Views.{step_of, landing_of, landing}
 use Rattle.values.specs.Laws.{Ops, Laws}
 use Rattle.calls.specs.Calls.{forward, back, transfer, scale, in_cells}
@@ -29,7 +29,7 @@ view_voxels : (scan : Scan) (view : ℕ) → landing_voxels (landing scan view) 
 unfolding landing
 view_voxels scan view = by_axis scan (slab_axis (step_of scan view)) (main_of (step_of scan view)) (side_of (step_of scan view))
 
-view_cells : (scan : Scan) (view : ℕ) → cells (landing scan view) ≡ panel_of scan
+view_cells : (scan : Scan) (view : ℕ) → cells (landing scan view) ≡ panel_cells_of scan
 unfolding landing
 view_cells scan view = refl
 

@@ -10,7 +10,7 @@ use Rattle.scan.specs.Landing.{Landing, Sound, by_slabs, nx, ny, voxels, cells, 
 use Rattle.values.specs.Naturals.{naturals}
 use Rattle.values.specs.Laws.{Ops, Laws}
 use Rattle.sweeps.specs.declared.pass.Pass.{Pass}
-use Rattle.sweeps.specs.Passes.{Sized, Swept, slab_start, slab_stride, height_stride, voxel_share, cell_share, height_weight, column_weight, layers_weight, block_weight}
+use Rattle.sweeps.specs.Passes.{Sized, Swept, slab_start, slab_stride, height_stride, voxel_share, cell_share, height_weight, column_weight, layer_weight, block_weight}
 use Rattle.values.proofs.Naturals.{naturals_laws}
 use Rattle.sweeps.proofs.Meetings.{voxel_place, no_voxels, no_cells}
 use Rattle.sweeps.proofs.Laid.{laid_only, laid_miss}
@@ -22,7 +22,7 @@ whole_column L k x c = sum naturals L.slabs (λ j. column_weight L j k 0 L.heigh
 
 -- a block after the columns before it
 block_more : (L : Landing) (first n x c : ℕ) → summed (whole_column L) first x c + block_weight L first n x c ≡ summed (whole_column L) (first + n) x c
-unfolding block_weight layers_weight
+unfolding block_weight layer_weight
 block_more L first n x c =
     ap (λ u. summed (whole_column L) first x c + u) (sum_swap naturals_laws L.slabs n (λ j d. column_weight L j (first + d) 0 L.heights x c))
     ∙ sym (sum_split naturals_laws first n (λ k. whole_column L k x c))
@@ -32,10 +32,10 @@ from_lowest : (L : Landing) (j k n x c : ℕ) → column_weight L j k 0 n x c �
 unfolding column_weight
 from_lowest L j k n x c = sum_same naturals_laws n _ _ (λ t h. let e : 0 + t ≡ t = omega arith in ap (λ l. height_weight L j k l x c) e)
 
--- some layers above the ones below them
-layers_more : (L : Landing) (first count j low n x c : ℕ) → layers_weight L first count j 0 low x c + layers_weight L first count j low n x c ≡ layers_weight L first count j 0 (low + n) x c
-unfolding layers_weight column_weight
-layers_more L first count j low n x c =
+-- a layer above the heights below it
+layer_more : (L : Landing) (first count j low n x c : ℕ) → layer_weight L first count j 0 low x c + layer_weight L first count j low n x c ≡ layer_weight L first count j 0 (low + n) x c
+unfolding layer_weight column_weight
+layer_more L first count j low n x c =
     sym (sum_plus naturals_laws count _ _)
     ∙ sum_same naturals_laws count _ _ (λ d h.
     let M : ℕ → ℕ = λ l. height_weight L j (first + d) l x c in
@@ -165,14 +165,14 @@ module _ (L : Landing) (sound : Sound L) (x c : ℕ) (xv : x < voxels L) (cc : c
       ∙ ap₂ (λ a b. a * b) (voxel_here k') (cell_here j' l')
 
 module _ {V View : Type 0} {o : Ops V} (laws : Laws o) {pass : Pass V View} (L : Landing) {old : List V} where
-  -- a sweep of no layers yet
-  pub layers_none : (first count j : ℕ) → Swept o pass (layers_weight L first count j 0 0) old old
-  unfolding layers_weight column_weight sum
-  layers_none first count j = swept_none laws (λ x c. sum_none naturals_laws count _ (λ d h. refl))
+  -- a sweep of no height yet
+  pub layer_none : (first count j : ℕ) → Swept o pass (layer_weight L first count j 0 0) old old
+  unfolding layer_weight column_weight sum
+  layer_none first count j = swept_none laws (λ x c. sum_none naturals_laws count _ (λ d h. refl))
 
-  -- a sweep of the layers below some, and one of these
-  pub layers_swept : (first count j low n : ℕ) {mid new : List V} → length mid ≡ length old → Swept o pass (layers_weight L first count j 0 low) old mid → Swept o pass (layers_weight L first count j low n) mid new → Swept o pass (layers_weight L first count j 0 (low + n)) old new
-  layers_swept first count j low n len = swept_joined laws len (layers_more L first count j low n)
+  -- a sweep of the heights below a layer, and one of the layer
+  pub layer_swept : (first count j low n : ℕ) {mid new : List V} → length mid ≡ length old → Swept o pass (layer_weight L first count j 0 low) old mid → Swept o pass (layer_weight L first count j low n) mid new → Swept o pass (layer_weight L first count j 0 (low + n)) old new
+  layer_swept first count j low n len = swept_joined laws len (layer_more L first count j low n)
 
   -- a sweep of the columns before a block, and one of the block
   pub block_swept : (first n : ℕ) {mid new : List V} → length mid ≡ length old → Swept o pass (summed (whole_column L) first) old mid → Swept o pass (block_weight L first n) mid new → Swept o pass (summed (whole_column L) (first + n)) old new

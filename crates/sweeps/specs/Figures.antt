@@ -60,7 +60,7 @@ counts ns = map counted ns
 abbrev pub ones : List Count
 ones = counts (1 ∷ 1 ∷ 1 ∷ 1 ∷ [])
 
--- Four voxels that are all 0.
+-- Four values that are all 0, for voxels or for the cells of two views.
 abbrev pub zeros : List Count
 zeros = counts (0 ∷ 0 ∷ 0 ∷ 0 ∷ [])
 

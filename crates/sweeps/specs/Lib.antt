@@ -2,8 +2,8 @@ pub mod Systems
 pub mod Checks
 pub mod Shadows
 pub mod Tally
+pub mod Figures
 pub mod Runs
 pub mod Strips
 pub mod Tables
 pub mod Passes
-pub mod Figures

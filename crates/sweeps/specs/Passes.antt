@@ -4,7 +4,7 @@ use Rattle.std.specs.Int.{int_min, int_max}
 use Rattle.values.specs.Laws.{Ops}
 use Rattle.values.specs.Sums.{sum}
 use Rattle.scan.specs.Landing.{Landing, by_slabs, nx, ny, voxels, cells, cross_overlap, height_overlap}
-use Rattle.scan.specs.Scans.{Scan, panel_of}
+use Rattle.scan.specs.Scans.{Scan, panel_cells_of}
 use Rattle.scan.specs.Views.{landing}
 use Rattle.values.specs.Naturals.{naturals}
 use Rattle.sweeps.specs.Strips.{laid, Inside, Gained}
@@ -68,16 +68,16 @@ unfoldable pub column_weight : Landing → ℕ → ℕ → ℕ → ℕ → ℕ �
 column_weight L j k low n x c = sum naturals n (λ t. height_weight L j k (low + t) x c)
 
 -- The same over `count` columns from the first on.
-unfoldable pub layers_weight : Landing → ℕ → ℕ → ℕ → ℕ → ℕ → ℕ → ℕ → ℕ
-layers_weight L first count j low n x c = sum naturals count (λ d. column_weight L j (first + d) low n x c)
+unfoldable pub layer_weight : Landing → ℕ → ℕ → ℕ → ℕ → ℕ → ℕ → ℕ → ℕ
+layer_weight L first count j low n x c = sum naturals count (λ d. column_weight L j (first + d) low n x c)
 
 -- The same over all heights.
 abbrev pub slab_weight : Landing → ℕ → ℕ → ℕ → ℕ → ℕ → ℕ
-slab_weight L first count j = layers_weight L first count j 0 L.heights
+slab_weight L first count j = layer_weight L first count j 0 L.heights
 
 -- The same over all slabs.
 unfoldable pub block_weight : Landing → ℕ → ℕ → ℕ → ℕ → ℕ
-block_weight L first n x c = sum naturals L.slabs (λ j. slab_weight L first n j x c)
+block_weight L first count x c = sum naturals L.slabs (λ j. slab_weight L first count j x c)
 
 -- The numbers and tables of a slab.
 pub record SlabOf (L : Landing) (s : Slab) : Type 0 where
@@ -125,6 +125,6 @@ pub record BlockOf (L : Landing) (first count : ℕ) (columns rows : List ℤ) :
 pub record CellsOf (scan : Scan) (view store start cells : ℕ) (L : Landing) : Type 0 where
   pub known : view < length scan.steps
   pub within : start + cells ≤ store
-  pub start_is : start ≡ view * panel_of scan
-  pub cells_are : cells ≡ panel_of scan
+  pub start_is : start ≡ view * panel_cells_of scan
+  pub cells_are : cells ≡ panel_cells_of scan
   pub lands : L ≡ landing scan view

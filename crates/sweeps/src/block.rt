@@ -1,9 +1,9 @@
 ghost use Rattle.std.specs.Prelude.{◌≡◌, ◌+◌, ◌-◌, ◌<◌, ◌≤◌, length};
-ghost use Rattle.sweeps.specs.Passes.{Sized, Swept, column_weight, layers_weight, slab_weight, block_weight, slab_start, slab_stride, height_stride, SlabOf, ColumnOf, BlockOf};
+ghost use Rattle.sweeps.specs.Passes.{Sized, Swept, column_weight, layer_weight, slab_weight, block_weight, slab_start, slab_stride, height_stride, SlabOf, ColumnOf, BlockOf};
 
 use crate::crossing::Crossing;
 use crate::edges::LandedEdges;
-use crate::pass::{Column, Layers, Pass, RunStarts, Slab};
+use crate::pass::{Column, Layer, Pass, RunStarts, Slab};
 use crate::strip::Line;
 use geometry::direction::SlabAxis;
 use geometry::stretch::Stretch;
@@ -14,9 +14,9 @@ use values::value::Value;
 // The most edges that an axis has.
 pub(crate) const MOST_EDGES: usize = MOST_CELLS + 1;
 
-// How many layers are swept at once, column after column: of so few the voxels that one column has read are still in the
-// processor's cache for the next, which meets most of them again.
-const LAYERS: usize = 32;
+// The heights of a layer: of so few the voxels that one column has read are still in the processor's cache for the next,
+// which meets most of them again.
+const LAYER: usize = 32;
 
 // Some columns of a view side by side, from `first` on: their landed edges, and those of the rows in each, column after column.
 #[derive(Drop)]
@@ -59,7 +59,7 @@ impl<'a, V: Value, L: Landed> Block<'a, V, L> {
         self.sweep_heights(slab_of(view, number, crosses, heights), near, to)
     }
 
-    // Some layers after others.
+    // Layer after layer, the lowest first.
     fn sweep_heights(&self, slab: Slab<'_>, near: RunStarts, to: &mut [V]) -> RunStarts
         requires sized { Sized (L.Landed.landing self.now.pass.now.view.now) self.now.pass.now (length to.old) }
         requires slab { SlabOf (L.Landed.landing self.now.pass.now.view.now) slab }
@@ -67,12 +67,12 @@ impl<'a, V: Value, L: Landed> Block<'a, V, L> {
     {
         let heights = slab.heights.cells();
         let mut near = near;
-        for first in (0..heights).step_by(LAYERS) {
-            let layers = Layers {
+        for first in (0..heights).step_by(LAYER) {
+            let layer = Layer {
                 first,
-                count: LAYERS.min(heights - first),
+                count: LAYER.min(heights - first),
             };
-            near = self.sweep_columns(slab, layers, near, to);
+            near = self.sweep_columns(slab, layer, near, to);
         }
         near
     }
@@ -81,18 +81,18 @@ impl<'a, V: Value, L: Landed> Block<'a, V, L> {
     fn sweep_columns(
         &self,
         slab: Slab<'_>,
-        layers: Layers,
+        layer: Layer,
         near: RunStarts,
         to: &mut [V],
     ) -> RunStarts
         requires sized { Sized (L.Landed.landing self.now.pass.now.view.now) self.now.pass.now (length to.old) }
         requires slab { SlabOf (L.Landed.landing self.now.pass.now.view.now) slab }
-        requires layers { layers.first + layers.count ≤ (L.Landed.landing self.now.pass.now.view.now).heights }
-        ensures { Swept V.Value.ops self.now.pass.now (layers_weight (L.Landed.landing self.now.pass.now.view.now) self.now.first (length self.now.columns.now - 1) slab.entry.number layers.first layers.count) to.old to.new }
+        requires layer { layer.first + layer.count ≤ (L.Landed.landing self.now.pass.now.view.now).heights }
+        ensures { Swept V.Value.ops self.now.pass.now (layer_weight (L.Landed.landing self.now.pass.now.view.now) self.now.first (length self.now.columns.now - 1) slab.entry.number layer.first layer.count) to.old to.new }
     {
         let mut near = near;
         for offset in 0..self.columns.len() - 1 {
-            near = sweep_column(self.pass, slab, layers, self.column(offset), near, to);
+            near = sweep_column(self.pass, slab, layer, self.column(offset), near, to);
         }
         near
     }
@@ -121,20 +121,20 @@ impl<'a, V: Value, L: Landed> Block<'a, V, L> {
     }
 }
 
-// Some layers of one slab, and one column. Answers where their runs begin, for the next column.
+// One layer of one slab, and one column. Answers where their runs begin, for the next column.
 fn sweep_column<V: Value, L: Landed>(
     pass: &Pass<'_, V, L>,
     slab: Slab<'_>,
-    layers: Layers,
+    layer: Layer,
     column: Column<'_>,
     near: RunStarts,
     to: &mut [V],
 ) -> RunStarts
     requires sized { Sized (L.Landed.landing pass.now.view.now) pass.now (length to.old) }
     requires slab { SlabOf (L.Landed.landing pass.now.view.now) slab }
-    requires layers { layers.first + layers.count ≤ (L.Landed.landing pass.now.view.now).heights }
+    requires layer { layer.first + layer.count ≤ (L.Landed.landing pass.now.view.now).heights }
     requires column { ColumnOf (L.Landed.landing pass.now.view.now) column }
-    ensures { Swept V.Value.ops pass.now (column_weight (L.Landed.landing pass.now.view.now) slab.entry.number column.entry.number layers.first layers.count) to.old to.new }
+    ensures { Swept V.Value.ops pass.now (column_weight (L.Landed.landing pass.now.view.now) slab.entry.number column.entry.number layer.first layer.count) to.old to.new }
 {
     let voxels = slab.lowest.over(column.over, near.voxels);
     let mut rows = near.rows;
@@ -145,7 +145,7 @@ fn sweep_column<V: Value, L: Landed>(
             column,
             voxels,
         };
-        rows = crossing.sweep(layers, rows, to);
+        rows = crossing.sweep(layer, rows, to);
     }
     RunStarts {
         voxels: voxels.first,

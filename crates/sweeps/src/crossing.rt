@@ -3,7 +3,7 @@ ghost use Rattle.sweeps.specs.Strips.{strip_share};
 ghost use Rattle.sweeps.specs.Passes.{Sized, Swept, Placed, height_weight, column_weight, SlabOf, ColumnOf, Meets, VoxelLine, CellLine};
 
 use crate::carry::carry;
-use crate::pass::{Column, Layers, Pass, Slab, Way};
+use crate::pass::{Column, Layer, Pass, Slab, Way};
 use crate::strip::Strip;
 use scan::landed::Landed;
 use values::value::Value;
@@ -21,17 +21,17 @@ pub(crate) struct Crossing<'a, V, L: Landed> {
 }
 
 impl<V: Value, L: Landed> Crossing<'_, V, L> {
-    // Height after height of some layers. Answers where the run of rows over the lowest begins, for the next column.
-    pub(crate) fn sweep(&self, layers: Layers, near: usize, to: &mut [V]) -> usize
+    // Height after height of a layer. Answers where the run of rows over the lowest begins, for the next column.
+    pub(crate) fn sweep(&self, layer: Layer, near: usize, to: &mut [V]) -> usize
         requires sized { Sized (L.Landed.landing self.now.pass.now.view.now) self.now.pass.now (length to.old) }
-        requires layers { layers.first + layers.count ≤ (L.Landed.landing self.now.pass.now.view.now).heights }
-        ensures { Swept V.Value.ops self.now.pass.now (column_weight (L.Landed.landing self.now.pass.now.view.now) self.now.slab.number self.now.column.number layers.first layers.count) to.old to.new }
+        requires layer { layer.first + layer.count ≤ (L.Landed.landing self.now.pass.now.view.now).heights }
+        ensures { Swept V.Value.ops self.now.pass.now (column_weight (L.Landed.landing self.now.pass.now.view.now) self.now.slab.number self.now.column.number layer.first layer.count) to.old to.new }
     {
         let rows = self.column.cells.edges;
-        let lowest = rows.run_start(self.slab.heights.at[layers.first], near);
+        let lowest = rows.run_start(self.slab.heights.at[layer.first], near);
         let mut near = lowest;
-        for offset in 0..layers.count {
-            near = self.sweep_height(layers.first + offset, near, to);
+        for offset in 0..layer.count {
+            near = self.sweep_height(layer.first + offset, near, to);
         }
         lowest
     }

@@ -30,15 +30,15 @@ pub(crate) struct Slab<'a> {
     pub(crate) heights: LandedEdges<'a>,
 }
 
-// Some heights of the volume, one above another.
+// Some heights of the volume, one above another, which are swept together.
 #[derive(Clone, Copy)]
-pub(crate) struct Layers {
+pub(crate) struct Layer {
     pub(crate) first: usize,
     pub(crate) count: usize,
 }
 
-// Where the runs of a slab and a column begin: that of its voxels, and that of the rows over the lowest of some layers.
-// They are where the search for the next column's runs begins, and any numbers would do.
+// Where the runs of a slab and a column begin: that of its voxels, and that of the rows over a layer's lowest height. They
+// are where the search for the next column's runs begins, and any numbers would do.
 #[derive(Clone, Copy)]
 pub(crate) struct RunStarts {
     pub(crate) voxels: usize,

@@ -9,7 +9,8 @@ use crate::table::filled;
 use scan::landed::Landed;
 use values::value::Value;
 
-// The columns of a block: the row edges of so many fit a small table, and the slabs' edges are computed once for all of them.
+// The columns of a block. The edges of each slab are computed once a block, so fewer columns cost more divisions; with more,
+// a slab along x no longer stays in the processor's cache for the next, and the table of their row edges grows.
 const BLOCK: usize = 32;
 
 // The most row edges of a block.

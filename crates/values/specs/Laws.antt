@@ -8,7 +8,7 @@ pub record Ops (V : Type 0) : Type 0 where
   pub times : V → V → V
   pub multiple : V → ℕ → V
 
--- What a kind of value must show, and no more: sum and product are commutative and associative, x + zero = x, x (y + z) = x y + x z, x times zero = zero, and multiples count up.
+-- What a kind of value must show, and no more: sum and product are commutative and associative, x + zero = x, x (y + z) = x y + x z, x times zero = zero, the multiple by 0 is zero, and the multiple by n + 1 is the multiple by n plus the value.
 pub record Laws {V : Type 0} (o : Ops V) : Type 0 where
   pub plus_comm : (x y : V) → o.plus x y ≡ o.plus y x
   pub plus_assoc : (x y z : V) → o.plus (o.plus x y) z ≡ o.plus x (o.plus y z)

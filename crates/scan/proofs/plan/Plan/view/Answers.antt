@@ -1,6 +1,6 @@
 use Rattle.std.specs.Prelude.{◌<◌, length, slice_index_or, vec_items}
 use Rattle.std.proofs.Common.{ap, ◌∙◌, arith}
-use Rattle.geometry.specs.Turn.{slab_axis, main_of, side_of}
+use Rattle.geometry.specs.Directions.{slab_axis, main_of, side_of}
 use Rattle.scan.specs.Views.{landing}
 use Rattle.scan.specs.Meanings.{plan_of}
 use Rattle.scan.specs.Fits.{number_at, fitted, landing_same, views_length}

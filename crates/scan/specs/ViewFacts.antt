@@ -2,28 +2,28 @@
 use Rattle.std.specs.Prelude.{ℕ, ◌+◌, ◌^◌, ◌<◌, ◌≤◌, ℤ, pos, ◌+ℤ◌, ◌*ℤ◌, ◌≤ℤ◌, ◌<ℤ◌, unsigned_abs}
 use Rattle.geometry.specs.declared.direction.SlabAxis.{SlabAxis}
 use Rattle.geometry.specs.Floor.{Floors}
-use Rattle.geometry.specs.Landed.{depth, slant}
-use Rattle.geometry.specs.Turn.{slab_axis, main_of, side_of}
+use Rattle.geometry.specs.Landed.{depth, panel_depth}
+use Rattle.geometry.specs.Directions.{slab_axis, main_of, side_of}
 use Rattle.scan.specs.Axes.{edge_of}
 use Rattle.scan.specs.Landing.{Sound}
 use Rattle.scan.specs.Scans.{Scan}
 use Rattle.scan.specs.Views.{cross_edges, slab_sum_of, column_sum_of, step_of, landing, weight_of}
 
--- No divisor of U, W, S and T is zero, and no numerator exceeds 2^62 in size.
+-- No divisor of U, W, S and T is zero, and no numerator exceeds 2^62 in magnitude.
 pub record SafeDivisions (scan : Scan) (along : SlabAxis) (a b : ℤ) : Type 0 where
   pub slab_divisor : (j : ℕ) → 0 < unsigned_abs (depth scan.source a (slab_sum_of scan along j))
   pub cross_dividend : (j i : ℕ) → unsigned_abs (scan.source *ℤ (pos 2 *ℤ edge_of (cross_edges scan along) i *ℤ a +ℤ slab_sum_of scan along j *ℤ b)) ≤ 2 ^ 62
   pub height_dividend : (l : ℕ) → unsigned_abs (pos 2 *ℤ scan.source *ℤ a *ℤ edge_of scan.z l) ≤ 2 ^ 62
-  pub column_divisor : (k : ℕ) → 0 < unsigned_abs (slant scan.panel a b (edge_of scan.column k))
+  pub column_divisor : (k : ℕ) → 0 < unsigned_abs (panel_depth scan.panel a b (edge_of scan.column k))
   pub column_dividend : (k : ℕ) → unsigned_abs (scan.source *ℤ pos 16384 *ℤ edge_of scan.column k) ≤ 2 ^ 62
-  pub row_divisor : (k : ℕ) → 0 < unsigned_abs (slant (pos 2 *ℤ scan.panel) a b (column_sum_of scan k))
+  pub row_divisor : (k : ℕ) → 0 < unsigned_abs (panel_depth (pos 2 *ℤ scan.panel) a b (column_sum_of scan k))
   pub row_dividend : (m : ℕ) → unsigned_abs (pos 2 *ℤ scan.source *ℤ a *ℤ edge_of scan.row m) ≤ 2 ^ 62
 
--- What is known of view v: it is sound, each edge is the greatest whole number not above its fraction, no division is by zero, S rises where a is positive and falls where a is negative, and every weight is below 2^52.
-pub record Lands (scan : Scan) (v : ℕ) : Type 0 where
+-- What is known of view v: it is sound; rounding down gives the greatest whole number not above a fraction, whatever fraction; no divisor is zero and no numerator exceeds 2^62; S rises where a is positive and falls where a is negative; and every weight is below 2^52.
+pub record ViewFacts (scan : Scan) (v : ℕ) : Type 0 where
   pub sound : Sound (landing scan v)
   pub floors : Floors
-  pub divides : SafeDivisions scan (slab_axis (step_of scan v)) (main_of (step_of scan v)) (side_of (step_of scan v))
+  pub safe : SafeDivisions scan (slab_axis (step_of scan v)) (main_of (step_of scan v)) (side_of (step_of scan v))
   pub S_rises : pos 0 <ℤ main_of (step_of scan v) → (k : ℕ) → (landing scan v).S k ≤ℤ (landing scan v).S (k + 1)
   pub S_falls : main_of (step_of scan v) <ℤ pos 0 → (k : ℕ) → (landing scan v).S (k + 1) ≤ℤ (landing scan v).S k
   pub light : (x c : ℕ) → weight_of scan v x c < 2 ^ 52
