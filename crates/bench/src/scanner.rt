@@ -91,3 +91,14 @@ pub(crate) fn voxels(heap: Global, plan: &Plan) -> Result<Vec<Count>, AllocError
         .map(|voxel| Count::from(voxel * 2_654_435_761 % 1000))
         .collect(heap)
 }
+
+#[cfg(test)]
+mod tests {
+    use super::*;
+
+    #[test]
+    fn distances_of_uneven_edges_grow_as_squares(rt: HostRuntime) {
+        let edges = [0, 1, 2, 3, 4].map(|i| uneven_edge(i, 2));
+        assert_eq!(rt; edges, [-128_000, -32_000, 0, 32_000, 128_000]);
+    }
+}

@@ -4,7 +4,7 @@ use std::time::Duration;
 
 #[derive(Clone, Copy)]
 pub(crate) struct Speed {
-    updates: u64,
+    pub(crate) updates: u64,
     took: Duration,
 }
 

@@ -36,3 +36,31 @@ pub(crate) fn sweep_all(
     }
     Ok(speeds)
 }
+
+#[cfg(test)]
+mod tests {
+    use super::*;
+    use crate::arguments::{Arguments, Grid};
+    use crate::scanner::{planned, voxels};
+    use std::test::Fail;
+    use values::value::Value;
+
+    #[test]
+    fn every_voxel_counts_once_a_view(rt: HostRuntime) -> Result<(), Fail> {
+        let arguments = Arguments {
+            side: 2,
+            heights: 3,
+            views: 2,
+            columns: 1,
+            rows: 1,
+            grid: Grid::Even,
+            timed: true,
+        };
+        let plan = planned(rt.alloc(), &arguments)?;
+        let mut volume = voxels(rt.alloc(), &plan)?;
+        let mut working = vec![in rt.alloc(); Count::ZERO; plan.places()]?;
+        let speeds = sweep_all(&rt, &plan, &mut volume, &mut working)?;
+        assert_eq!(rt; (speeds.forward.updates, speeds.back.updates), (24, 24));
+        Ok(())
+    }
+}
