@@ -36,16 +36,13 @@ fn drafted(heap: Global, arguments: &Arguments) -> Result<Draft, Failure> {
     match arguments.grid {
         Grid::Even => {
             let across = even(-VOLUME_HALF, 2 * VOLUME_HALF, side)?;
-            drafted_over(
-                heap,
-                arguments,
-                &across,
-                &even(-VOLUME_HALF, 2 * VOLUME_HALF, heights)?,
-            )
+            let up = even(-VOLUME_HALF, 2 * VOLUME_HALF, heights)?;
+            drafted_over(heap, arguments, &across, &up)
         }
         Grid::Uneven => {
             let across = uneven(heap, side)?;
-            drafted_over(heap, arguments, &across, &uneven(heap, heights)?)
+            let up = uneven(heap, heights)?;
+            drafted_over(heap, arguments, &across, &up)
         }
     }
 }
