@@ -1,5 +1,6 @@
 -- Count: a whole number modulo 2^64, shown as signed.
-use Rattle.std.specs.Prelude.{ℕ, ◌+◌, ◌*◌, ◌%◌, ◌^◌, ℤ}
+use Rattle.std.specs.Prelude.{ℕ, ◌+◌, ◌*◌, ◌%◌, ◌^◌, List, ℤ}
+use Rattle.std.specs.Fmt.{signed_decimal}
 use Rattle.std.proofs.Common.{mod-lt, pow_pos, to_z, of_z}
 use Rattle.std.specs.Int.{w64}
 use Rattle.values.specs.Laws.{Ops}
@@ -21,6 +22,10 @@ count_ops = record {
 -- The signed number that a Count is shown as: its 64 bits in two's complement.
 abbrev pub shown : Count → ℤ
 shown x = to_z w64 x.bits
+
+-- What is printed of a Count: its signed number.
+abbrev pub count_text : Count → List ℕ
+count_text x = signed_decimal (shown x)
 
 -- The 64 bits of a signed number in two's complement.
 abbrev pub bits_of : ℤ → ℕ

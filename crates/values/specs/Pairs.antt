@@ -1,6 +1,7 @@
 -- Pair: two Counts, for images of two materials, each part worked by itself.
+use Rattle.std.specs.Prelude.{ℕ, List, ◌++◌, codes}
 use Rattle.values.specs.Laws.{Ops}
-use Rattle.values.specs.Counts.{count_ops}
+use Rattle.values.specs.Counts.{count_ops, count_text}
 use Rattle.values.specs.declared.count.Count.{Count}
 use Rattle.values.specs.declared.pair.Pair.{Pair}
 
@@ -16,3 +17,7 @@ pair_ops = record {
   times = λ x y. paired (count_ops.times x.first y.first) (count_ops.times x.second y.second);
   multiple = λ x n. paired (count_ops.multiple x.first n) (count_ops.multiple x.second n);
 }
+
+-- What is printed of a Pair: its two Counts.
+abbrev pub pair_text : Pair → List ℕ
+pair_text x = codes "(" ++ count_text x.first ++ codes ", " ++ count_text x.second ++ codes ")"

@@ -1,5 +1,5 @@
 -- Reach: yes or no; its sum is "either", its product is "both".
-use Rattle.std.specs.Prelude.{Bool, false, ◌||◌, ◌&&◌, ℕ, zero, suc}
+use Rattle.std.specs.Prelude.{Bool, false, ◌||◌, ◌&&◌, if◌then◌else◌, ℕ, zero, suc, List, codes}
 use Rattle.values.specs.Laws.{Ops}
 use Rattle.values.specs.declared.reach.Reach.{Reach}
 
@@ -20,3 +20,7 @@ reach_ops = record {
   times = λ x y. reached (x.yes && y.yes);
   multiple = λ x n. reached (multiple_of n x.yes);
 }
+
+-- What is printed of a Reach: yes or no.
+abbrev pub reach_text : Reach → List ℕ
+reach_text x = (if x.yes then codes "yes" else codes "no")

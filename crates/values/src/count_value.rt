@@ -1,6 +1,5 @@
 ghost use Rattle.std.specs.Prelude.{◌≡◌, refl, Some};
-ghost use Rattle.std.specs.Fmt.{signed_decimal};
-ghost use Rattle.values.specs.Counts.{count_ops, shown, bits_of};
+ghost use Rattle.values.specs.Counts.{count_ops, shown, bits_of, count_text};
 ghost use Rattle.values.specs.CountLaws.{count_laws};
 
 use crate::count::Count;
@@ -26,10 +25,19 @@ impl From<Count> for i64 {
 }
 
 impl fmt::Display for Count {
-    ghost output = { λ count. Some (signed_decimal (shown count)) };
+    ghost output = { λ count. Some (count_text count) };
 
     fn fmt<W: fmt::Write>(&self, f: &mut fmt::Formatter<W>) -> fmt::Result {
         write!(f, "{}", i64::from(*self))
+    }
+}
+
+// As by `{}`: what a Count is, and not how it is kept.
+impl fmt::Debug for Count {
+    ghost debug_output = { λ count. Some (count_text count) };
+
+    fn fmt<W: fmt::Write>(&self, f: &mut fmt::Formatter<W>) -> fmt::Result {
+        write!(f, "{self}")
     }
 }
 

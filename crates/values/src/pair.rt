@@ -1,15 +1,24 @@
-ghost use Rattle.std.specs.Prelude.{refl};
-ghost use Rattle.values.specs.Pairs.{pair_ops};
+ghost use Rattle.std.specs.Prelude.{refl, Some};
+ghost use Rattle.values.specs.Pairs.{pair_ops, pair_text};
 ghost use Rattle.values.specs.PairLaws.{pair_laws};
 
 use crate::count::Count;
 use crate::value::Value;
+use std::fmt;
 
 /// Two Counts, for images of two materials.
-#[derive(Clone, Copy, PartialEq, Eq, Debug)]
+#[derive(Clone, Copy, PartialEq, Eq, Default)]
 pub struct Pair {
     pub first: Count,
     pub second: Count,
+}
+
+impl fmt::Debug for Pair {
+    ghost debug_output = { λ pair. Some (pair_text pair) };
+
+    fn fmt<W: fmt::Write>(&self, f: &mut fmt::Formatter<W>) -> fmt::Result {
+        write!(f, "({}, {})", self.first, self.second)
+    }
 }
 
 impl Value for Pair {

@@ -1,13 +1,26 @@
-ghost use Rattle.std.specs.Prelude.{refl};
-ghost use Rattle.values.specs.Reaches.{reach_ops};
+ghost use Rattle.std.specs.Prelude.{refl, Some};
+ghost use Rattle.values.specs.Reaches.{reach_ops, reach_text};
 ghost use Rattle.values.specs.ReachLaws.{reach_laws};
 
 use crate::value::Value;
+use std::fmt;
 
 /// Whether something is reached: yes or no.
-#[derive(Clone, Copy, PartialEq, Eq, Debug)]
+#[derive(Clone, Copy, PartialEq, Eq, Default)]
 pub struct Reach {
     pub yes: bool,
+}
+
+impl fmt::Debug for Reach {
+    ghost debug_output = { λ reach. Some (reach_text reach) };
+
+    fn fmt<W: fmt::Write>(&self, f: &mut fmt::Formatter<W>) -> fmt::Result {
+        if self.yes {
+            write!(f, "yes")
+        } else {
+            write!(f, "no")
+        }
+    }
 }
 
 impl Value for Reach {
