@@ -21,7 +21,7 @@ impl TryFrom<i32> for Step {
         if (0..=LAST_STEP).contains(&number) {
             Ok(Step {
                 // `as`, since the test above is all that `try_from` would do again.
-                number: number as usize,
+                number: number as u8,
             })
         } else {
             Err(NoStep { number })

@@ -1,12 +1,20 @@
 // A step of the turn.
-ghost use Rattle.std.specs.Prelude.{◌<◌};
+ghost use Rattle.std.specs.Prelude.{◌≡◌, ◌<◌};
 
 /// The last of the steps 0 to 63.
 pub const LAST_STEP: i32 = 63;
 
-/// One of the 64 equal steps of a whole turn.
+/// One of the 64 equal steps of a whole turn. A byte, since a plan keeps up to 1,024 of them in place.
 #[derive(Clone, Copy, PartialEq, Eq, Debug)]
 pub struct Step {
-    pub number: usize,
+    pub number: u8,
     ghost below: { number < 64 },
+}
+
+impl Default for Step {
+    ghost is_default = { λ s. s.number ≡ 0 };
+
+    fn default() -> Step {
+        Step { number: 0 }
+    }
 }

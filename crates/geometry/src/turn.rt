@@ -30,15 +30,16 @@ pub fn heading(step: Step) -> Heading
     ensures cos { result.c ≡ cos_of step.number }
     ensures round { CircleRule result.s result.c }
 {
-    let up = sine_of(step.number % QUARTER);
-    let down = sine_of(QUARTER - step.number % QUARTER);
+    let number = usize::from(step.number);
+    let up = sine_of(number % QUARTER);
+    let down = sine_of(QUARTER - number % QUARTER);
     let quarters = [
         Heading { s: up, c: down },
         Heading { s: down, c: -up },
         Heading { s: -up, c: -down },
         Heading { s: -down, c: up },
     ];
-    quarters[step.number / QUARTER]
+    quarters[number / QUARTER]
 }
 
 /// The slab axis of a step, and the a and b that go with it.
