@@ -2,21 +2,26 @@
 //! tools/plan_files.py makes the files in data/ and the answers in stdout.
 #![tactic(auto)]
 
-use shadows::answer::answer_to;
-use shadows::input::read_front;
+use shadows::answer::{Answer, answer_to};
 use std::fs::Files;
 use std::{fs, io};
 
-fn print_answer(rt: &(impl Files + Print + AllocGlobal), name: &str) -> io::Result<()> {
-    let bytes = read_front(rt.alloc(), fs::open(rt, name)?)?;
+fn print_answer(
+    rt: &(impl Files + Print + Alloc),
+    name: &str,
+    answer: &mut Answer,
+) -> io::Result<()> {
+    answer_to(&fs::read(rt, name)?, answer);
     println!(rt; "{name}")?;
-    print!(rt; "{}", answer_to(rt.alloc(), &bytes)?)
+    print!(rt; "{answer}")
 }
 
 fn main(rt: HostRuntime) -> io::Result<()> {
     let names = fs::read_to_string(&rt, "list")?;
+    // One for all files: each is answered anew.
+    let mut answer = Answer::default();
     for name in names.lines() {
-        print_answer(&rt, name)?;
+        print_answer(&rt, name, &mut answer)?;
     }
     Ok(())
 }

@@ -1,14 +1,11 @@
 -- Views added one after the other.
 use Rattle.std.specs.Prelude.{◌≡◌, ℕ, ◌+◌, ◌<◌, ◌≤◌, List, [], ◌∷◌, ◌++◌, map, take, length, ℤ, pos, Bool, None, unsigned_abs}
-use Rattle.std.proofs.Common.{refl, sym, ap, ◌∙◌, append_assoc, arith}
+use Rattle.std.proofs.Common.{sym, ap, ◌∙◌, append_assoc, arith}
 use Rattle.std.proofs.lemmas.Bool.Decides.{nat_tests}
 use Rattle.std.proofs.lemmas.List.{append-nil, map-append, take_more, length-append, length-map, length-take-le}
 use Rattle.scan.specs.Scans.{Scan, with_view, with_views}
 use Rattle.scan.specs.DraftChecks.{no_step, view_check}
 use Rattle.scan.proofs.Firsts.{first_none}
-use Rattle.scan.specs.Verdicts.{refusal_of}
-use Rattle.scan.specs.declared.failure.Failure.{Failure}
-use Rattle.scan.specs.declared.failure.Failure.TheVariants.{Refused, Memory}
 use Rattle.scan.specs.declared.refusal.Refusal.TheVariants.{StepOutOfRange, DraftFull}
 use Rattle.planfile.proofs.Nones.{none_or, none_where}
 use Rattle.planfile.specs.FileChecks.{first_no_step}
@@ -36,8 +33,3 @@ view_passes zs i views none l room =
     let test : ℕ → Bool = λ k. no_step (edge_or_zero zs k) in
     let step = first_none test (length zs) none i l in
     none_or (none_where (StepOutOfRange (edge_or_zero zs i)) step) (none_where (DraftFull views) (grind (arith, nat_tests)))
-
--- a failure that is no refusal is want of memory
-pub memory_alone : (failure : Failure) → refusal_of failure ≡ None → failure ≡ Memory
-memory_alone Memory e = refl
-memory_alone (Refused refusal) e = absurd cc

@@ -2,11 +2,9 @@
 use Rattle.std.specs.Prelude.{ℕ, List, ◌++◌, codes}
 use Rattle.std.specs.Fmt.{decimal}
 use Rattle.scan.specs.declared.refusal.Refusal.{Refusal}
-use Rattle.scan.specs.Refusals.{number as refusal_number, memory_text}
+use Rattle.scan.specs.Refusals.{number as refusal_number}
 use Rattle.planfile.specs.declared.fault.Fault.{Fault}
 use Rattle.planfile.specs.declared.fault.Fault.TheVariants.{Incomplete, Trailing, Refused}
-use Rattle.planfile.specs.declared.read_failure.ReadFailure.{ReadFailure}
-use Rattle.planfile.specs.declared.read_failure.ReadFailure.TheVariants as failures
 
 -- The number of each fault, by which it is known to users.
 abbrev pub number : Fault → ℕ
@@ -31,8 +29,3 @@ refused_text n p = codes "refused " ++ decimal n ++ codes " at " ++ decimal p
 -- What is printed of a fault.
 abbrev pub fault_text : Fault → List ℕ
 fault_text fault = refused_text (number fault) (place fault)
-
--- What is printed where a plan was not read: the fault, or that there is no memory.
-abbrev pub failure_text : ReadFailure → List ℕ
-failure_text (failures.Refused fault) = fault_text fault
-failure_text failures.Memory = memory_text

@@ -4,5 +4,4 @@ pub mod Plans
 pub mod Written
 pub mod Faults
 pub mod FileChecks
-pub mod Readings
 pub mod Kept

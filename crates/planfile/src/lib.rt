@@ -9,7 +9,6 @@ pub mod fault;
 pub mod numbers;
 pub mod placed;
 pub mod plan;
-pub mod read_failure;
 mod section;
 mod sections;
 pub mod voxels;

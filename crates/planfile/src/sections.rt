@@ -14,7 +14,7 @@ use crate::numbers::Numbers;
 use crate::section::refused_number;
 use geometry::distances::Distances;
 use geometry::step::LAST_STEP;
-use scan::axis::{Axis, MOST_CELLS};
+use scan::axis::{Axis, MOST_EDGES};
 use scan::draft_checks::check_distances;
 use scan::plan::MOST_VIEWS;
 use scan::refusal::Refusal;
@@ -51,7 +51,7 @@ impl<'a> Cursor<'a> {
         ensures bytes { self.new.bytes.now ≡ self.old.bytes.now }
         ensures moved { OnOk result (self.new.offset ≡ end_of self.old.bytes.now self.old.offset) }
     {
-        let section = self.section(2, MOST_CELLS + 1)?;
+        let section = self.section(2, MOST_EDGES)?;
         match BytesAxis::new(section.numbers) {
             Ok(axis) => Ok(axis),
             Err(refusal) => Err(refused_number(section.start, refusal.place(), refusal).into()),

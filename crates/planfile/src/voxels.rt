@@ -18,9 +18,10 @@ use scan::plan::Plan;
 use scan::refusal::{Refusal, Store};
 use values::count::Count;
 
-// The values of the plan's voxels, from a byte on: they are lent on, and none is copied. Checks 1, 2, 1, 3.
+/// The values of the plan's voxels, from a byte of the bytes on, as numbers that are lent on: nothing is copied or written.
+/// Checks 1, 2, 1, 3.
 #[tactic(auto, using(std::proofs::lemmas::Result::err_from_is_err_and, crate::proofs::Values::values_long))]
-fn voxel_values<'a>(plan: &Plan, bytes: &'a [u8], start: usize) -> Result<Numbers<'a>, Fault>
+pub fn voxel_values<'a>(plan: &Plan, bytes: &'a [u8], start: usize) -> Result<Numbers<'a>, Fault>
     ensures { let n = voxels_of (plan_of plan.now) in
         Verdict (voxels_check bytes.now start n) (λ values. (numbers_in values.bytes.now ≡ section_at bytes.now start) × (length (numbers_in values.bytes.now) ≡ n)) result }
 {

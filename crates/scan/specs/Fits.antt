@@ -1,7 +1,6 @@
 -- Lemmas, no definitions of the subject: what a draft or a plan holds keeps the limits.
-use Rattle.std.specs.Prelude.{◌≡◌, ℕ, zero, suc, ◌<◌, List, [], ◌∷◌, length, ℤ, vec_items, vec_len, Vec, slice_index, slice_index_or}
+use Rattle.std.specs.Prelude.{◌≡◌, ℕ, zero, suc, ◌<◌, List, [], ◌∷◌, length, ℤ, slice_index, slice_index_or}
 use Rattle.std.proofs.Common.{sym, ap, ◌∙◌, arith}
-use Rattle.std.specs.declared.alloc.Global.{Global}
 use Rattle.std.proofs.lemmas.List.{length-map, get_or-map}
 use Rattle.std.proofs.lemmas.Int.{ints}
 use Rattle.geometry.specs.declared.direction.SlabAxis.{SlabAxis}
@@ -13,8 +12,8 @@ use Rattle.scan.specs.Views.{landing_of}
 use Rattle.scan.specs.Meanings.{numbers, scan_of}
 
 -- as many views as numbers of views
-pub views_length : (views : Vec Step Global) → vec_len views ≡ length (numbers (vec_items views))
-views_length views = views.ok.0 ∙ sym (length-map (vec_items views) (λ (step : Step). step.number))
+pub views_length : (views : List Step) → length views ≡ length (numbers views)
+views_length views = sym (length-map views (λ (step : Step). step.number))
 
 -- every step is below 64
 step_below : (steps : List Step) (v : ℕ) → slice_index (numbers steps) v < 64
@@ -42,8 +41,8 @@ fitted layout =
       row = layout.row.proper;
       clear = layout.clear;
       nearer = layout.nearer;
-      steps = step_below (vec_items layout.views);
-      views = omega (arith, views_length layout.views, layout.few);
+      steps = step_below (layout.views.items);
+      views = omega (arith, views_length layout.views.items, layout.few);
     }
 
 -- the same direction lands the same

@@ -1,5 +1,5 @@
 -- The scan that a draft or a plan holds.
-use Rattle.std.specs.Prelude.{ℕ, List, map, vec_items}
+use Rattle.std.specs.Prelude.{ℕ, List, map}
 use Rattle.geometry.specs.declared.step.Step.{Step}
 use Rattle.scan.specs.Scans.{Scan}
 use Rattle.scan.specs.declared.layout.Layout.{Layout}
@@ -16,12 +16,12 @@ scan_of layout =
     record {
       source = layout.distances.source;
       panel = layout.distances.panel;
-      x = vec_items layout.x.edges;
-      y = vec_items layout.y.edges;
-      z = vec_items layout.z.edges;
-      column = vec_items layout.column.edges;
-      row = vec_items layout.row.edges;
-      steps = numbers (vec_items layout.views);
+      x = layout.x.edges.items;
+      y = layout.y.edges.items;
+      z = layout.z.edges.items;
+      column = layout.column.edges.items;
+      row = layout.row.edges.items;
+      steps = numbers layout.views.items;
     }
 
 -- The scan of a draft.

@@ -1,8 +1,6 @@
 -- The number, the place and the text of each refusal.
 use Rattle.std.specs.Prelude.{ℕ, List, ◌++◌, codes}
 use Rattle.std.specs.Fmt.{decimal}
-use Rattle.scan.specs.declared.failure.Failure.{Failure}
-use Rattle.scan.specs.declared.failure.Failure.TheVariants.{Refused, Memory}
 use Rattle.scan.specs.declared.refusal.Refusal.{Refusal}
 use Rattle.scan.specs.declared.refusal.Refusal.TheVariants.{Count, NotRising, OutOfRange, SourceDistance, PanelDistance, SourceTooNear, ColumnBeyond, StepOutOfRange, DraftFull, NoView, StoreLength, BoxBounds}
 
@@ -39,12 +37,3 @@ place (BoxBounds axis lower upper cells) = 0
 -- What is printed of a refusal.
 abbrev pub refusal_text : Refusal → List ℕ
 refusal_text refusal = codes "refused by " ++ decimal (number refusal) ++ codes " at place " ++ decimal (place refusal)
-
--- What is printed where there is no memory.
-abbrev pub memory_text : List ℕ
-memory_text = codes "there is no memory"
-
--- What is printed where something was not made: the refusal, or that there is no memory.
-abbrev pub failure_text : Failure → List ℕ
-failure_text (Refused refusal) = refusal_text refusal
-failure_text Memory = memory_text

@@ -4,6 +4,9 @@ ghost use Rattle.scan.specs.Axes.{Proper, cells_of, edge_of};
 /// How many cells an axis may have.
 pub const MOST_CELLS: usize = 512;
 
+/// How many edges an axis may have.
+pub const MOST_EDGES: usize = MOST_CELLS + 1;
+
 /// The edges of the cells along one direction. A number past the last is answered as the last.
 pub trait Axis {
     ghost edges: { Self → List ℤ };

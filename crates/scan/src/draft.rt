@@ -1,6 +1,6 @@
 // A scan to which views can still be added.
-ghost use Rattle.std.specs.Prelude.{◌≡◌, length, Ok, Err, IfOk, unsigned_abs};
-ghost use Rattle.scan.specs.Verdicts.{Outcome};
+ghost use Rattle.std.specs.Prelude.{◌≡◌, length, Ok, Err, unsigned_abs};
+ghost use Rattle.scan.specs.Verdicts.{Verdict};
 ghost use Rattle.scan.specs.DraftChecks.{draft_check, view_check};
 ghost use Rattle.scan.specs.Scans.{without_views, with_view};
 ghost use Rattle.scan.specs.Limits.{Fitted};
@@ -9,11 +9,11 @@ ghost use Rattle.scan.specs.Meanings.{draft_of, plan_of};
 use crate::accepted::Accepted;
 use crate::axis::Axis;
 use crate::draft_checks::{check_distances, check_view};
-use crate::failure::Failure;
 use crate::layout::Layout;
 use crate::listed::ListedAxis;
 use crate::plan::Plan;
-use std::alloc::{AllocError, Global};
+use crate::refusal::Refusal;
+use arrayvec::ArrayVec;
 
 /// A scan to which views can still be added. `seal` makes it a plan.
 #[derive(Drop)]
@@ -22,21 +22,21 @@ pub struct Draft {
 }
 
 impl<X: Axis, Y: Axis, C: Axis> Accepted<'_, X, Y, C> {
-    /// The draft with no views. It keeps the edges that the axes answer, and only memory can fail it.
-    pub fn draft<Z: Axis, R: Axis>(self, heap: Global, z: &Z, row: &R) -> Result<Draft, AllocError>
-        ensures { IfOk result (λ d. draft_of d ≡ without_views self.entry.distances.source self.entry.distances.panel (X.Axis.edges self.entry.x.now) (Y.Axis.edges self.entry.y.now) (Z.Axis.edges z.now) (C.Axis.edges self.entry.column.now) (R.Axis.edges row.now)) }
+    /// The draft with no views. It keeps the edges that the axes answer.
+    pub fn draft<Z: Axis, R: Axis>(self, z: &Z, row: &R) -> Draft
+        ensures { draft_of result ≡ without_views self.entry.distances.source self.entry.distances.panel (X.Axis.edges self.entry.x.now) (Y.Axis.edges self.entry.y.now) (Z.Axis.edges z.now) (C.Axis.edges self.entry.column.now) (R.Axis.edges row.now) }
     {
-        Ok(Draft {
+        Draft {
             layout: Layout {
                 distances: self.distances,
-                x: ListedAxis::copy_of(heap, self.x)?,
-                y: ListedAxis::copy_of(heap, self.y)?,
-                z: ListedAxis::copy_of(heap, z)?,
-                column: ListedAxis::copy_of(heap, self.column)?,
-                row: ListedAxis::copy_of(heap, row)?,
-                views: Vec::new(heap),
+                x: ListedAxis::copy_of(self.x),
+                y: ListedAxis::copy_of(self.y),
+                z: ListedAxis::copy_of(z),
+                column: ListedAxis::copy_of(self.column),
+                row: ListedAxis::copy_of(row),
+                views: ArrayVec::new(),
             },
-        })
+        }
     }
 }
 
@@ -44,7 +44,6 @@ impl Draft {
     /// A draft with no views: how far the source and the panel stand, and the axes of the volume and of the panel.
     /// Checks 6 for D, 6 for F, 7, 8. The axes are no struct of five, since each may be of a type of its own.
     pub fn new<X: Axis, Y: Axis, Z: Axis, C: Axis, R: Axis>(
-        heap: Global,
         source: i32,
         panel: i32,
         x: &X,
@@ -52,23 +51,22 @@ impl Draft {
         z: &Z,
         column: &C,
         row: &R,
-    ) -> Result<Draft, Failure>
-        ensures { Outcome (draft_check source panel (X.Axis.edges x.now) (Y.Axis.edges y.now) (C.Axis.edges column.now)) (λ d. draft_of d ≡ without_views source panel (X.Axis.edges x.now) (Y.Axis.edges y.now) (Z.Axis.edges z.now) (C.Axis.edges column.now) (R.Axis.edges row.now)) result }
+    ) -> Result<Draft, Refusal>
+        ensures { Verdict (draft_check source panel (X.Axis.edges x.now) (Y.Axis.edges y.now) (C.Axis.edges column.now)) (λ d. draft_of d ≡ without_views source panel (X.Axis.edges x.now) (Y.Axis.edges y.now) (Z.Axis.edges z.now) (C.Axis.edges column.now) (R.Axis.edges row.now)) result }
     {
-        // A check that may refuse, and then a making that only memory can fail.
         let distances = check_distances(source, panel)?;
         let accepted = Accepted::new(distances, x, y, column)?;
-        Ok(accepted.draft(heap, z, row)?)
+        Ok(accepted.draft(z, row))
     }
 
     /// Adds a view from a step of the turn, and says its number. Checks 9, 21.
-    pub fn add_view(&mut self, step: i32) -> Result<usize, Failure>
-        ensures value { Outcome (view_check (length (draft_of self.old).steps) step) (λ n. n ≡ length (draft_of self.old).steps) result }
+    pub fn add_view(&mut self, step: i32) -> Result<usize, Refusal>
+        ensures value { Verdict (view_check (length (draft_of self.old).steps) step) (λ n. n ≡ length (draft_of self.old).steps) result }
         ensures after { draft_of self.new ≡ elim result [ Ok n ↦ with_view (draft_of self.old) (unsigned_abs step) | Err e ↦ draft_of self.old ] }
     {
         let views = self.layout.views();
         let step = check_view(views, step)?;
-        self.layout.views.push(step)?;
+        self.layout.views.push(step);
         Ok(views)
     }
 

@@ -29,7 +29,7 @@ pub fn check_distances(source: i32, panel: i32) -> Result<Distances, Refusal>
 }
 
 impl<'a, X: Axis, Y: Axis, C: Axis> Accepted<'a, X, Y, C> {
-    /// Distances, and the axes that are to go with them. Checks 7, 8, and allocates nothing.
+    /// Distances, and the axes that are to go with them. Checks 7, 8, and copies nothing.
     pub fn new(
         distances: Distances,
         x: &'a X,

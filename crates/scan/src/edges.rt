@@ -4,7 +4,7 @@ ghost use Rattle.scan.specs.Axes.{Proper};
 ghost use Rattle.scan.specs.Verdicts.{Verdict};
 ghost use Rattle.scan.specs.AxisChecks.{edge_or_zero, count_check, first_outside, first_not_rising, edges_check, listed_check};
 
-use crate::axis::MOST_CELLS;
+use crate::axis::MOST_EDGES;
 use crate::refusal::Refusal;
 use geometry::edge::FARTHEST_EDGE;
 
@@ -76,6 +76,6 @@ pub(crate) fn check_edges<E: Edges>(edges: &E) -> Result<(), Refusal>
 pub fn check_listed<E: Edges>(edges: &E) -> Result<(), Refusal>
     ensures { Verdict (listed_check (E.edges edges.now)) (λ _. Proper (E.edges edges.now)) result }
 {
-    check_count(edges.count(), 2, MOST_CELLS + 1)?;
+    check_count(edges.count(), 2, MOST_EDGES)?;
     check_edges(edges)
 }

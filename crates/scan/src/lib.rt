@@ -7,7 +7,6 @@ pub mod draft;
 pub mod draft_checks;
 pub mod edges;
 pub mod even;
-pub mod failure;
 pub mod landed;
 mod layout;
 mod layout_parts;

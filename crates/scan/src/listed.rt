@@ -1,15 +1,15 @@
 // An axis whose edges are listed.
-ghost use Rattle.std.specs.Prelude.{◌≡◌, IfOk};
+ghost use Rattle.std.specs.Prelude.{◌≡◌};
 ghost use Rattle.scan.specs.Axes.{Proper, edge_of, low_of, high_of};
-ghost use Rattle.scan.specs.Verdicts.{Outcome};
+ghost use Rattle.scan.specs.Verdicts.{Verdict};
 ghost use Rattle.scan.specs.AxisChecks.{listed_check};
 
-use crate::axis::Axis;
+use crate::axis::{Axis, MOST_EDGES};
 use crate::edges::{Edges, check_listed};
-use crate::failure::Failure;
+use crate::refusal::Refusal;
+use arrayvec::ArrayVec;
 use geometry::cell::Cell;
 use geometry::edge::Edge;
-use std::alloc::{AllocError, Global};
 
 impl Edges for &[i32] {
     ghost edges = { λ s. s.now };
@@ -29,37 +29,42 @@ impl Edges for &[i32] {
 }
 
 // The edges of any axis, listed.
-fn edges_of<A: Axis>(heap: Global, axis: &A) -> Result<Vec<i32>, AllocError>
-    ensures { IfOk result (λ edges. edges.items ≡ A.edges axis.now) }
+fn edges_of<A: Axis>(axis: &A) -> ArrayVec<i32, MOST_EDGES>
+    ensures { result.items ≡ A.edges axis.now }
 {
-    (0..axis.cells() + 1).map(|i| axis.edge(i)).collect(heap)
+    let mut edges = ArrayVec::new();
+    for i in 0..axis.cells() + 1 {
+        edges.push(axis.edge(i));
+    }
+    edges
 }
 
 /// An axis whose edges are listed.
 #[derive(Drop)]
 pub struct ListedAxis {
-    pub(crate) edges: Vec<i32>,
+    pub(crate) edges: ArrayVec<i32, MOST_EDGES>,
     ghost proper: { Proper edges.items },
 }
 
 impl ListedAxis {
     /// The axis of these edges. Checks 2, 5, 4.
-    pub fn new(heap: Global, edges: &[i32]) -> Result<ListedAxis, Failure>
-        ensures { Outcome (listed_check edges.now) (λ a. ⟦<ListedAxis as Axis>⟧.edges a ≡ edges.now) result }
+    pub fn new(edges: &[i32]) -> Result<ListedAxis, Refusal>
+        ensures { Verdict (listed_check edges.now) (λ a. ⟦<ListedAxis as Axis>⟧.edges a ≡ edges.now) result }
     {
         check_listed(&edges)?;
-        Ok(ListedAxis {
-            edges: edges.to_vec(heap)?,
-        })
+        let Ok(edges) = ArrayVec::try_from(edges) else {
+            unreachable!();
+        };
+        Ok(ListedAxis { edges })
     }
 
     // The axis of the edges of any axis.
-    pub(crate) fn copy_of<A: Axis>(heap: Global, axis: &A) -> Result<ListedAxis, AllocError>
-        ensures { IfOk result (λ a. a.edges.items ≡ A.edges axis.now) }
+    pub(crate) fn copy_of<A: Axis>(axis: &A) -> ListedAxis
+        ensures { result.edges.items ≡ A.edges axis.now }
     {
-        Ok(ListedAxis {
-            edges: edges_of(heap, axis)?,
-        })
+        ListedAxis {
+            edges: edges_of(axis),
+        }
     }
 
     // The edge of a number, where a number past the last stands for the last.

@@ -1,11 +1,15 @@
 //! Prints what the panel sees of the plan file that is given on standard input, or why it is refused.
 #![tactic(auto)]
 
-use shadows::answer::answer_to;
-use shadows::input::read_front;
+mod input;
+
+use input::read_front;
+use shadows::answer::{Answer, answer_to};
 use std::io;
 
 fn main(rt: HostRuntime) -> io::Result<()> {
-    let bytes = read_front(rt.alloc(), rt.reader())?;
-    print!(rt; "{}", answer_to(rt.alloc(), &bytes)?)
+    let front = read_front(rt.reader())?;
+    let mut answer = Answer::default();
+    answer_to(&front, &mut answer);
+    print!(rt; "{answer}")
 }

@@ -1,7 +1,6 @@
 pub mod EveryView
 pub mod Texts
-pub mod Values
+pub mod Filled
 pub mod Most
 pub mod Longest
 pub mod Front
-pub mod Reading

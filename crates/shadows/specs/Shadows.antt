@@ -1,6 +1,6 @@
 -- The shadow of a file, which is what the panel sees of its voxels, and when a file is refused.
 use Rattle.std.specs.Option.{option_or, option_map}
-use Rattle.std.specs.Prelude.{◌≡◌, ℕ, ◌||◌, List, length, pos, nat_lt, true, vec_items, Option, Some, None, Result, Ok, Err}
+use Rattle.std.specs.Prelude.{◌≡◌, ℕ, ◌||◌, List, [], length, pos, nat_lt, true, Option}
 use Rattle.values.specs.Counts.{count_ops}
 use Rattle.values.specs.Reaches.{reach_ops, reached}
 use Rattle.scan.specs.Axes.{cells_of}
@@ -18,8 +18,6 @@ use Rattle.sweeps.specs.Tally.{tallied}
 use Rattle.shadows.specs.EveryView.{projected, backprojected}
 use Rattle.shadows.specs.declared.refusal.Refusal.{Refusal}
 use Rattle.shadows.specs.declared.refusal.Refusal.TheVariants.{File, TooLarge}
-use Rattle.shadows.specs.declared.failure.Failure.{Failure}
-use Rattle.shadows.specs.declared.failure.Failure.TheVariants.{Refused, Memory}
 use Rattle.shadows.specs.declared.shadow.Shadow.{Shadow}
 
 -- 10 for a plan of more than 4,096 voxels, or of more than 4,096 cells over all its views, at the place p at which the section of the voxels begins.
@@ -40,16 +38,20 @@ cells_seen scan volume = projected count_ops (system_of scan) (count_of (pos 1))
 abbrev pub voxels_hit : Scan → ℕ
 voxels_hit scan = tallied (backprojected reach_ops (system_of scan) (reached true) (built (places (system_of scan)) (λ _. reached true)))
 
--- The shadow of a scan whose voxels have these values: its numbers of views, rows and columns, the cells of all views, and how many voxels are hit.
-pub record ShadowOf (scan : Scan) (volume : List Count) (shadow : Shadow) : Type 0 where
+-- The shadow of a scan whose voxels have these values: its numbers of views, rows and columns, the voxels, the cells of all views, and how many voxels are hit.
+pub record ShadowOf (scan : Scan) (values : List Count) (shadow : Shadow) : Type 0 where
   pub views : shadow.views ≡ length scan.steps
   pub rows : shadow.rows ≡ cells_of scan.row
   pub columns : shadow.columns ≡ cells_of scan.column
-  pub cells : vec_items shadow.cells ≡ cells_seen scan volume
+  pub volume : shadow.volume.items ≡ values
+  pub cells : shadow.cells.items ≡ cells_seen scan values
   pub hit : shadow.hit ≡ voxels_hit scan
 
--- What making a shadow, or a part of it, answers: a value of which P holds where the check finds nothing, and else what it finds; or that there is no memory, in which case `early` holds, since want of memory may show before all is checked.
-abbrev pub ShadowOutcome : {A : Type 0} → Option Refusal → Type 0 → (A → Type 0) → Result A Failure → Type 0
-ShadowOutcome check early P (Ok value) = (check ≡ None) × P value
-ShadowOutcome check early P (Err (Refused refusal)) = check ≡ Some refusal
-ShadowOutcome check early P (Err Memory) = early
+-- A blank shadow, before a file is read: of no voxel, in no view, on a panel of one cell.
+pub record Blank (shadow : Shadow) : Type 0 where
+  pub views : shadow.views ≡ 0
+  pub rows : shadow.rows ≡ 1
+  pub columns : shadow.columns ≡ 1
+  pub volume : shadow.volume.items ≡ []
+  pub cells : shadow.cells.items ≡ []
+  pub hit : shadow.hit ≡ 0

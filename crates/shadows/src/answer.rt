@@ -1,43 +1,49 @@
 // What the program answers to a file.
-ghost use Rattle.std.specs.Prelude.{◌≡◌, None, IfOk, OnErr, Some};
-ghost use Rattle.planfile.specs.FileChecks.{plan_check};
-ghost use Rattle.shadows.specs.Answers.{Answers};
+ghost use Rattle.std.specs.Prelude.{Some};
+ghost use Rattle.shadows.specs.Answers.{Blank, Answers};
 ghost use Rattle.shadows.specs.Texts.{answer_text};
 
-use crate::failure::Failure;
 use crate::file::shadow_of;
 use crate::refusal::Refusal;
 use crate::shadow::Shadow;
-use std::alloc::{AllocError, Global};
 use std::fmt;
 
-/// What the program answers to a file: its shadow, or why there is none.
+/// What the program answers to a file: its shadow, or why there is none. A caller makes one, blank, keeps it where there is
+/// room, and lends it for file after file: it is no enum, since a case that holds a shadow would have to be moved into place.
 #[derive(Drop)]
-pub enum Answer {
-    Shadow(Shadow),
-    Refused(Refusal),
+pub struct Answer {
+    /// Why the file has no shadow, where it has none.
+    pub refusal: Option<Refusal>,
+    /// The shadow of the last file that has one.
+    pub shadow: Shadow,
+}
+
+/// A blank answer: a blank shadow, and no refusal.
+impl Default for Answer {
+    ghost is_default = { Blank };
+
+    fn default() -> Answer {
+        Answer {
+            refusal: None,
+            shadow: Shadow::default(),
+        }
+    }
 }
 
 impl fmt::Display for Answer {
     ghost output = { λ answer. Some (answer_text answer) };
 
     fn fmt<W: fmt::Write>(&self, f: &mut fmt::Formatter<W>) -> fmt::Result {
-        match self {
-            Answer::Shadow(shadow) => write!(f, "{shadow}"),
-            Answer::Refused(refusal) => writeln!(f, "{refusal}"),
+        match &self.refusal {
+            None => write!(f, "{}", self.shadow),
+            Some(refusal) => writeln!(f, "{refusal}"),
         }
     }
 }
 
-/// The answer to a file. To be refused is an answer; only want of memory is not.
-pub fn answer_to(heap: Global, bytes: &[u8]) -> Result<Answer, AllocError>
-    ensures answer { IfOk result (λ answer. Answers bytes.now answer) }
-    // Want of memory is told only where no check of the plan fails.
-    ensures memory { OnErr result (plan_check bytes.now ≡ None) }
+/// Makes an answer that to a file. To be refused is an answer, which leaves the shadow.
+pub fn answer_to(bytes: &[u8], answer: &mut Answer)
+    ensures { Answers bytes.now answer.old answer.new }
 {
-    match shadow_of(heap, bytes) {
-        Ok(shadow) => Ok(Answer::Shadow(shadow)),
-        Err(Failure::Refused(refusal)) => Ok(Answer::Refused(refusal)),
-        Err(Failure::Memory) => Err(AllocError),
-    }
+    answer.refusal = shadow_of(bytes, &mut answer.shadow).err();
 }

@@ -3,8 +3,6 @@
 
 pub mod answer;
 mod every_view;
-pub mod failure;
 pub mod file;
-pub mod input;
 pub mod refusal;
 pub mod shadow;

@@ -1,15 +1,15 @@
 use Rattle.std.specs.Prelude.{◌<◌, length}
-use Rattle.std.proofs.Common.{arith, rules, sym, ap, ◌∙◌, w32, SFits}
+use Rattle.std.proofs.Common.{arith, rules, ap, ◌∙◌, w32, SFits}
 use Rattle.std.proofs.lemmas.Int.{to_z-of_z}
 use Rattle.scan.specs.DraftChecks.{view_check}
-use Rattle.std.proofs.lemmas.Result.{err_from_is_err_and}
 use Rattle.scan.specs.Meanings.{draft_of}
 use Rattle.planfile.specs.Numbers.{numbers_in}
-use Rattle.planfile.proofs.Views.{views_so_far, view_passes, memory_alone}
+use Rattle.planfile.proofs.Outcomes.{passed}
+use Rattle.planfile.proofs.Views.{views_so_far, view_passes}
 use Rattle.planfile.proofs.plan.add_views.Goals as goal
 
-pub returns-in_err-add_view-clause-memory : goal.returns-in_err-add_view-clause-memory
-returns-in_err-add_view-clause-memory c =
+pub unwrap-requires : goal.unwrap-requires
+unwrap-requires c =
     let zs = numbers_in c.args.steps.now.bytes.now in
     let i = c.loop-i.i in
     let here : i < length zs = omega (arith, c.len-i-end.ensures) in
@@ -17,7 +17,6 @@ returns-in_err-add_view-clause-memory c =
     let room : length (draft_of c.loop-i.draft).steps < 1024 = omega (arith, views, c.requires.room, here) in
     let passes = view_passes zs i (length (draft_of c.loop-i.draft).steps) c.requires.steps here room in
     let fits : SFits w32 c.number.result = search rules in
-    let told = simp to_z-of_z at c.in_err-add_view.ensures.value in
-    let no_refusal = sym told ∙ ap (view_check (length (draft_of c.loop-i.draft).steps)) c.number.ensures ∙ passes in
-    let p = err_from_is_err_and c.from_residual.result c.from_residual.ensures.1 in
-    rw p.1 (p.2 ∙ memory_alone c.in_err-add_view.field-0.0 no_refusal)
+    let told = simp to_z-of_z at c.add_view.ensures.value in
+    let none = ap (view_check (length (draft_of c.loop-i.draft).steps)) c.number.ensures ∙ passes in
+    passed _ _ c.add_view.result none told

@@ -3,4 +3,4 @@ use Rattle.scan.proofs.accepted.Accepted.draft.Goals as goal
 
 pub returns : goal.returns
 returns g c =
-    rw (c.in_ok-copy_of.ensures, c.in_ok-copy_of-2.ensures, c.in_ok-copy_of-3.ensures, c.in_ok-copy_of-4.ensures, c.in_ok-copy_of-5.ensures, c.new.ensures.items) refl
+    rw (c.copy_of.ensures, c.copy_of-2.ensures, c.copy_of-3.ensures, c.copy_of-4.ensures, c.copy_of-5.ensures, c.new.ensures) refl
