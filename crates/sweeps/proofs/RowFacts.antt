@@ -1,5 +1,5 @@
 -- How a row goes on, call after call, on stores of the plan's sizes.
-use Rattle.std.proofs.Common.{◌≡◌, ℕ, ◌+◌, ◌≤◌, Bool, true, false, not, if◌then◌else◌, Option, Some, None, Result, Ok, Err, List, ◌∷◌, length, drop, refl, sym, ap, ◌∙◌, add_assoc, arith}
+use Rattle.std.proofs.Common.{◌≡◌, ℕ, ◌+◌, ◌≤◌, Bool, true, false, IsTrue, ◌↔◌, not, if◌then◌else◌, Option, Some, None, Result, Ok, Err, List, ◌∷◌, length, drop, refl, sym, ap, ◌∙◌, add_assoc, arith}
 use Rattle.std.specs.Option.{is_some}
 use Rattle.std.specs.Result.{is_err, result_err}
 use Rattle.std.proofs.lemmas.Bool.Decides.{nat_tests}
@@ -26,6 +26,18 @@ module _ {V : Type 0} (s : System) where
   refused_where_not_accepted (Give view factor) r h = rw (h.measured, h.working) (grind (arith, nat_tests))
   refused_where_not_accepted (Scale view factor) r h = rw h.working (grind (arith, nat_tests))
   refused_where_not_accepted (Trim within) r h = rw h.volume (grind (arith, nat_tests))
+
+-- a check finds nothing exactly where a test holds, if it refuses where the test does not
+none_where_true : (check : Option Refusal) (b : Bool) → is_some check ≡ not b → IsTrue b ↔ (check ≡ None)
+none_where_true None true e = (λ _. refl, λ _. refl)
+none_where_true None false e = absurd (grind arith)
+none_where_true (Some refusal) true e = absurd (grind arith)
+none_where_true (Some refusal) false e = (λ holds. absurd (grind arith), λ none. absurd cc)
+
+-- a call is accepted by a row exactly where its check finds nothing
+pub accepted_where_none : {V : Type 0} (s : System) (call : Call V) (r : Stores V) → Fits s r → IsTrue (accepted s call) ↔ (call_check s call r ≡ None)
+accepted_where_none s call r fits =
+    none_where_true (call_check s call r) (accepted s call) (refused_where_not_accepted s call r fits)
 
 -- what a check leaves, by whether there is a refusal
 left_by : {A : Type 0} (check : Option Refusal) (b : Bool) (new old : A) → is_some check ≡ not b → unless_refused check new old ≡ (if b then new else old)

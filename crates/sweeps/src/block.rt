@@ -7,12 +7,9 @@ use crate::pass::{Column, Layer, Pass, RunStarts, Slab};
 use crate::strip::Line;
 use geometry::direction::SlabAxis;
 use geometry::stretch::Stretch;
-use scan::axis::MOST_CELLS;
+use scan::axis::MOST_EDGES;
 use scan::landed::Landed;
 use values::value::Value;
-
-// The most edges that an axis has.
-pub(crate) const MOST_EDGES: usize = MOST_CELLS + 1;
 
 // The heights of a layer: of so few the voxels that one column has read are still in the processor's cache for the next,
 // which meets most of them again.

@@ -3,9 +3,10 @@ ghost use Rattle.scan.specs.Landing.{weight};
 ghost use Rattle.sweeps.specs.Passes.{Sized, Swept, block_weight};
 ghost use Rattle.sweeps.specs.Tables.{Tabled};
 
-use crate::block::{Block, MOST_EDGES};
+use crate::block::Block;
 use crate::pass::Pass;
 use crate::table::filled;
+use scan::axis::MOST_EDGES;
 use scan::landed::Landed;
 use values::value::Value;
 
@@ -27,7 +28,9 @@ pub(crate) fn sweep<V: Value, L: Landed>(pass: &Pass<'_, V, L>, to: &mut [V])
     }
 }
 
-// A block of columns, whose edges are computed once for all slabs, into tables of their numbers.
+// A block of columns, whose edges are computed once for all slabs, into tables of their numbers. Never inlined: a caller that
+// sweeps values of two kinds would hold the tables of both at once on the stack.
+#[inline(never)]
 fn sweep_block<V: Value, L: Landed>(pass: &Pass<'_, V, L>, first: usize, count: usize, to: &mut [V])
     requires sized { Sized (L.Landed.landing pass.now.view.now) pass.now (length to.old) }
     requires below { first + count ≤ (L.Landed.landing pass.now.view.now).columns }
