@@ -1,9 +1,9 @@
 // The scan that is swept: a cube of voxels before a panel that sees all but its corners.
 use crate::arguments::{Arguments, Grid};
+use anyhow::Result;
 use scan::axis::Axis;
 use scan::draft::Draft;
 use scan::even::EvenAxis;
-use scan::failure::Failure;
 use scan::listed::ListedAxis;
 use scan::plan::Plan;
 use scan::refusal::Refusal;
@@ -23,7 +23,7 @@ const VOLUME_HALF: i32 = 128_000;
 const PANEL_HALF: i32 = 256_000;
 
 // The views go round the full turn of 64 steps.
-pub(crate) fn planned(heap: Global, arguments: &Arguments) -> Result<Plan, Failure> {
+pub(crate) fn planned(heap: Global, arguments: &Arguments) -> Result<Plan> {
     let mut draft = drafted(heap, arguments)?;
     for view in 0..arguments.views {
         draft.add_view(i32::from(view) * 64 / i32::from(arguments.views))?;
@@ -31,31 +31,26 @@ pub(crate) fn planned(heap: Global, arguments: &Arguments) -> Result<Plan, Failu
     Ok(draft.seal())
 }
 
-fn drafted(heap: Global, arguments: &Arguments) -> Result<Draft, Failure> {
+fn drafted(heap: Global, arguments: &Arguments) -> Result<Draft> {
     let Arguments { side, heights, .. } = *arguments;
     match arguments.grid {
         Grid::Even => {
             let across = even(-VOLUME_HALF, 2 * VOLUME_HALF, side)?;
             let up = even(-VOLUME_HALF, 2 * VOLUME_HALF, heights)?;
-            drafted_over(heap, arguments, &across, &up)
+            Ok(drafted_over(arguments, &across, &up)?)
         }
         Grid::Uneven => {
             let across = uneven(heap, side)?;
             let up = uneven(heap, heights)?;
-            drafted_over(heap, arguments, &across, &up)
+            Ok(drafted_over(arguments, &across, &up)?)
         }
     }
 }
 
-fn drafted_over<A: Axis>(
-    heap: Global,
-    arguments: &Arguments,
-    across: &A,
-    up: &A,
-) -> Result<Draft, Failure> {
+fn drafted_over<A: Axis>(arguments: &Arguments, across: &A, up: &A) -> Result<Draft, Refusal> {
     let columns = even(-PANEL_HALF, 2 * PANEL_HALF, arguments.columns)?;
     let rows = even(-PANEL_HALF, 2 * PANEL_HALF, arguments.rows)?;
-    Draft::new(heap, SOURCE, PANEL, across, across, up, &columns, &rows)
+    Draft::new(SOURCE, PANEL, across, across, up, &columns, &rows)
 }
 
 // Cells side by side from `first` on. Where there are none, the axis is refused whatever the pitch.
@@ -65,12 +60,12 @@ fn even(first: i32, width: i32, cells: u16) -> Result<EvenAxis, Refusal> {
 }
 
 // Cells that are wider the further they lie from the middle.
-fn uneven(heap: Global, cells: u16) -> Result<ListedAxis, Failure> {
+fn uneven(heap: Global, cells: u16) -> Result<ListedAxis> {
     let half = cells / 2;
     let edges: Vec<i32> = (0..cells.saturating_add(1))
         .map(|i| uneven_edge(i, half))
         .collect(heap)?;
-    ListedAxis::new(heap, &edges)
+    Ok(ListedAxis::new(&edges)?)
 }
 
 // An edge, whose distance from the middle grows as the square of its number from there. None of these products leaves 32

@@ -1,15 +1,16 @@
 //! A small plan, projected forward and back, and one iteration run as a row of calls.
 #![tactic(auto)]
 
+use anyhow::{Context, Result};
 use calls::call::Call;
 use scan::draft::Draft;
 use scan::even::EvenAxis;
-use scan::failure::Failure;
 use scan::listed::ListedAxis;
 use scan::plan::Plan;
+use scan::refusal::Refusal;
 use scan::scan_axis::ScanAxis;
 use std::alloc::Global;
-use std::{fmt, io};
+use std::io;
 use sweeps::backprojection::back;
 use sweeps::projection::forward;
 use sweeps::row::run;
@@ -19,25 +20,25 @@ use values::reach::Reach;
 use values::value::Value;
 
 // Two by two voxels of 100 units, 100 high, and a panel of one row and two columns.
-fn drafted(heap: Global) -> Result<Draft, Failure> {
+fn drafted() -> Result<Draft, Refusal> {
     let x = EvenAxis::new(-100, 100, 2)?;
     let y = EvenAxis::new(-100, 100, 2)?;
     let z = EvenAxis::new(-50, 100, 1)?;
-    let column = ListedAxis::new(heap, &[-200, 0, 200])?;
-    let row = ListedAxis::new(heap, &[-100, 100])?;
-    Draft::new(heap, 1000, 2000, &x, &y, &z, &column, &row)
+    let column = ListedAxis::new(&[-200, 0, 200])?;
+    let row = ListedAxis::new(&[-100, 100])?;
+    Draft::new(1000, 2000, &x, &y, &z, &column, &row)
 }
 
 // Seen along y, and after a quarter turn along x.
-fn planned(heap: Global) -> Result<Plan, Failure> {
-    let mut draft = drafted(heap)?;
+fn planned() -> Result<Plan, Refusal> {
+    let mut draft = drafted()?;
     draft.add_view(0)?;
     draft.add_view(16)?;
     Ok(draft.seal())
 }
 
 // The shadow of voxels that are all 1, in every view.
-fn shadow(heap: Global, plan: &Plan) -> Result<Vec<Count>, Failure> {
+fn shadow(heap: Global, plan: &Plan) -> Result<Vec<Count>> {
     let volume = vec![in heap; Count::from(1); plan.voxels()]?;
     let mut working = vec![in heap; Count::ZERO; plan.places()]?;
     // By number, since the number of the view is what each call takes.
@@ -49,11 +50,7 @@ fn shadow(heap: Global, plan: &Plan) -> Result<Vec<Count>, Failure> {
 
 // One Landweber iteration from an image of twos: the measured shadow less the image's own is projected back. Answers the
 // image, and how many calls of the row were refused.
-fn iterated(
-    heap: Global,
-    plan: &Plan,
-    measured: &mut [Count],
-) -> Result<(Vec<Count>, usize), Failure> {
+fn iterated(heap: Global, plan: &Plan, measured: &mut [Count]) -> Result<(Vec<Count>, usize)> {
     let (one, less) = (Count::from(1), Count::from(-1));
     let mut row = Vec::new(heap);
     for view in 0..plan.views() {
@@ -70,7 +67,7 @@ fn iterated(
 }
 
 // How many voxels the first column of some view reaches.
-fn hits(heap: Global, plan: &Plan) -> Result<usize, Failure> {
+fn hits(heap: Global, plan: &Plan) -> Result<usize> {
     let yes = Reach { yes: true };
     let columns = plan.cells_along(ScanAxis::Column);
     let working: Vec<Reach> = (0..plan.places())
@@ -86,24 +83,6 @@ fn hits(heap: Global, plan: &Plan) -> Result<usize, Failure> {
     Ok(tally(&volume))
 }
 
-// What a step of the program stopped at, and why.
-#[derive(Drop)]
-struct Stop {
-    what: &'static str,
-    failure: Failure,
-}
-
-impl fmt::Display for Stop {
-    fn fmt<W: fmt::Write>(&self, f: &mut fmt::Formatter<W>) -> fmt::Result {
-        write!(f, "{}: {}.", self.what, self.failure)
-    }
-}
-
-// An outcome that, where it is a failure, says at what.
-fn at<T: Drop>(what: &'static str, made: Result<T, Failure>) -> Result<T, Stop> {
-    made.map_err(|failure| Stop { what, failure })
-}
-
 // A plan, its shadow, how many voxels are hit, and the image that one iteration makes of the shadow.
 #[derive(Drop)]
 struct Outcome {
@@ -114,11 +93,11 @@ struct Outcome {
     refused: usize,
 }
 
-fn project(heap: Global) -> Result<Outcome, Stop> {
-    let plan = at("The plan", planned(heap))?;
-    let mut cells = at("Forward", shadow(heap, &plan))?;
-    let hit = at("Back", hits(heap, &plan))?;
-    let (image, refused) = at("An iteration", iterated(heap, &plan, &mut cells))?;
+fn project(heap: Global) -> Result<Outcome> {
+    let plan = planned().context("The plan")?;
+    let mut cells = shadow(heap, &plan).context("Forward")?;
+    let hit = hits(heap, &plan).context("Back")?;
+    let (image, refused) = iterated(heap, &plan, &mut cells).context("An iteration")?;
     Ok(Outcome {
         plan,
         cells,
@@ -129,9 +108,11 @@ fn project(heap: Global) -> Result<Outcome, Stop> {
 }
 
 // The number of a view at a step. A step past the last is refused, and the draft stays as it was.
-fn numbered(heap: Global, step: i32) -> Result<usize, Stop> {
-    let mut draft = at("The draft", drafted(heap))?;
-    at("A view at a step past the last", draft.add_view(step))
+fn numbered(step: i32) -> Result<usize> {
+    let mut draft = drafted().context("The draft")?;
+    draft
+        .add_view(step)
+        .context("A view at a step past the last")
 }
 
 fn print_cells(rt: &impl Print, plan: &Plan, cells: &[Count]) -> io::Result<()> {
@@ -169,20 +150,19 @@ fn print_outcome(rt: &impl Print, outcome: &Outcome) -> io::Result<()> {
     println!(rt; "\nrefused {}", outcome.refused)
 }
 
-fn main(rt: HostRuntime) -> io::Result<()> {
+fn main(rt: HostRuntime) -> Result<()> {
     println!(rt;
         "Four voxels of 100 units, the source 1000 from the rotation axis, the panel 2000 from the source."
     )?;
     let step = 64;
-    match numbered(rt.alloc(), step) {
+    match numbered(step) {
         Ok(view) => println!(rt; "A view at step {step}: number {view}.")?,
-        Err(stop) => println!(rt; "{stop}")?,
+        Err(error) => println!(rt; "{error:#}.")?,
     }
     println!(rt;
         "Views at steps 0 and 16: sealed. Forward from ones as Count, back from the first column as Reach, and one Landweber iteration from twos:"
     )?;
-    match project(rt.alloc()) {
-        Ok(outcome) => print_outcome(&rt, &outcome),
-        Err(stop) => println!(rt; "{stop}"),
-    }
+    let outcome = project(rt.alloc())?;
+    print_outcome(&rt, &outcome)?;
+    Ok(())
 }

@@ -43,7 +43,7 @@ fn an_axis_over_bytes_answers_its_edges(rt: HostRuntime) -> Result<(), Fail> {
 fn a_draft_takes_axes_of_unlike_kinds(rt: HostRuntime) -> Result<(), Fail> {
     let over = BytesAxis::new(Numbers { bytes: &EDGES })?;
     let even = EvenAxis::new(-50, 20, 5)?;
-    let mut draft = Draft::new(rt.alloc(), 1000, 2000, &over, &even, &over, &even, &over)?;
+    let mut draft = Draft::new(1000, 2000, &over, &even, &over, &even, &over)?;
     draft.add_view(0)?;
     let plan = draft.seal();
     assert_eq!(rt;

@@ -1,18 +1,14 @@
 use crate::example::{PLAN, VOXELS};
 use planfile::plan::read_plan;
-use planfile::read_failure::ReadFailure;
 use scan::landed::Landed;
 use scan::plan::Plan;
 use scan::scan_axis::ScanAxis;
-use std::alloc::Global;
 use std::test::Fail;
 
 // The number and the place of the fault at which the reading of a plan ends.
-fn refused(heap: Global, bytes: &[u8]) -> Option<(u8, usize)> {
-    match read_plan(heap, bytes) {
-        Err(ReadFailure::Refused(fault)) => Some((fault.number(), fault.place())),
-        _ => None,
-    }
+fn refused(bytes: &[u8]) -> Option<(u8, usize)> {
+    let fault = read_plan(bytes).err()?;
+    Some((fault.number(), fault.place()))
 }
 
 fn sizes(plan: &Plan) -> [usize; 6] {
@@ -28,7 +24,7 @@ fn sizes(plan: &Plan) -> [usize; 6] {
 
 #[test]
 fn a_plan_and_no_more(rt: HostRuntime) -> Result<(), Fail> {
-    let (plan, rest) = read_plan(rt.alloc(), &PLAN)?;
+    let (plan, rest) = read_plan(&PLAN)?;
     assert_eq!(rt; sizes(&plan), [2, 2, 2, 1, 2, 1]);
     assert!(rt; rest.is_empty());
     Ok(())
@@ -36,7 +32,7 @@ fn a_plan_and_no_more(rt: HostRuntime) -> Result<(), Fail> {
 
 #[test]
 fn its_views_land_as_worked_out(rt: HostRuntime) -> Result<(), Fail> {
-    let (plan, _rest) = read_plan(rt.alloc(), &PLAN)?;
+    let (plan, _rest) = read_plan(&PLAN)?;
     let view = plan.view(0).ok_or("the plan has view 0")?;
     // The slab from 0 to 100.
     assert_eq!(rt;
@@ -57,7 +53,7 @@ fn what_follows_is_handed_back(rt: HostRuntime) -> Result<(), Fail> {
     let mut bytes = PLAN.to_vec(heap)?;
     bytes.extend_from_slice(&VOXELS)?;
     bytes.push(9)?;
-    let (plan, rest) = read_plan(heap, &bytes)?;
+    let (plan, rest) = read_plan(&bytes)?;
     assert_eq!(rt; plan.views(), 2);
     assert_eq!(rt; rest.len(), 21);
     assert_eq!(rt; &rest[..20], VOXELS.as_slice());
@@ -67,14 +63,13 @@ fn what_follows_is_handed_back(rt: HostRuntime) -> Result<(), Fail> {
 
 #[test]
 fn the_first_fault_is_told(rt: HostRuntime) -> Result<(), Fail> {
-    let heap = rt.alloc();
-    assert_eq!(rt; refused(heap, &[]), Some((1, 0)));
-    assert_eq!(rt; refused(heap, &PLAN[..95]), Some((1, 92)));
+    assert_eq!(rt; refused(&[]), Some((1, 0)));
+    assert_eq!(rt; refused(&PLAN[..95]), Some((1, 92)));
     let mut bytes = PLAN;
     // The last step becomes 64, and then besides the last edge of x equals the one before it.
     bytes[92] = 64;
-    assert_eq!(rt; refused(heap, &bytes), Some((9, 92)));
+    assert_eq!(rt; refused(&bytes), Some((9, 92)));
     bytes[24] = 0;
-    assert_eq!(rt; refused(heap, &bytes), Some((4, 24)));
+    assert_eq!(rt; refused(&bytes), Some((4, 24)));
     Ok(())
 }

@@ -1,8 +1,6 @@
 use planfile::fault::Fault;
 use planfile::placed::Placed;
-use planfile::read_failure::ReadFailure;
 use scan::refusal::Refusal;
-use std::alloc::AllocError;
 use std::test::Fail;
 
 #[test]
@@ -20,15 +18,5 @@ fn faults_are_printed_with_number_and_place(rt: HostRuntime) -> Result<(), Fail>
     for (fault, text) in &cases {
         assert_eq!(rt; fault.to_string(heap)?.as_str(), *text);
     }
-    Ok(())
-}
-
-#[test]
-fn failures_are_printed(rt: HostRuntime) -> Result<(), Fail> {
-    let heap = rt.alloc();
-    let refused = ReadFailure::from(Fault::Trailing { place: 116 });
-    assert_eq!(rt; refused.to_string(heap)?.as_str(), "refused 3 at 116");
-    let memory = ReadFailure::from(AllocError);
-    assert_eq!(rt; memory.to_string(heap)?.as_str(), "there is no memory");
     Ok(())
 }

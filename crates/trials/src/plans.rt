@@ -3,18 +3,18 @@ use crate::small_plans::small;
 use scan::axis::Axis;
 use scan::draft::Draft;
 use scan::even::EvenAxis;
-use scan::failure::Failure;
 use scan::landed::Landed;
 use scan::listed::ListedAxis;
+use scan::refusal::Refusal;
 use std::alloc::{AllocError, Global};
 use std::test::Fail;
 
 // A draft of two cells along each axis; `last` is the last edge of the columns.
-fn draft(heap: Global, source: i32, panel: i32, last: i32) -> Result<Draft, Failure> {
-    let side = ListedAxis::new(heap, &[-100, 0, 100])?;
+fn draft(source: i32, panel: i32, last: i32) -> Result<Draft, Refusal> {
+    let side = ListedAxis::new(&[-100, 0, 100])?;
     let height = EvenAxis::new(-50, 50, 2)?;
-    let column = ListedAxis::new(heap, &[-1000, 0, last])?;
-    Draft::new(heap, source, panel, &side, &side, &height, &column, &height)
+    let column = ListedAxis::new(&[-1000, 0, last])?;
+    Draft::new(source, panel, &side, &side, &height, &column, &height)
 }
 
 // Edges 0, 1, 2, .., so many.
@@ -24,8 +24,7 @@ fn edges(heap: Global, many: i32) -> Result<Vec<i32>, AllocError> {
 
 #[test]
 fn axes_answer_their_edges_and_the_last_beyond(rt: HostRuntime) -> Result<(), Fail> {
-    let heap = rt.alloc();
-    let listed = ListedAxis::new(heap, &[-7, 0, 4_194_304])?;
+    let listed = ListedAxis::new(&[-7, 0, 4_194_304])?;
     assert_eq!(rt;
         (
             listed.cells(),
@@ -46,14 +45,11 @@ fn axes_answer_their_edges_and_the_last_beyond(rt: HostRuntime) -> Result<(), Fa
 #[test]
 fn axes_have_1_to_512_cells(rt: HostRuntime) -> Result<(), Fail> {
     let heap = rt.alloc();
-    assert_eq!(rt; refused(ListedAxis::new(heap, &[0])), Some((2, 0)));
-    assert_eq!(rt; ListedAxis::new(heap, &[0, 3])?.cells(), 1);
-    let most = ListedAxis::new(heap, &edges(heap, 513)?)?;
+    assert_eq!(rt; refused(ListedAxis::new(&[0])), Some((2, 0)));
+    assert_eq!(rt; ListedAxis::new(&[0, 3])?.cells(), 1);
+    let most = ListedAxis::new(&edges(heap, 513)?)?;
     assert_eq!(rt; most.cells(), 512);
-    assert_eq!(rt;
-        refused(ListedAxis::new(heap, &edges(heap, 514)?)),
-        Some((2, 0))
-    );
+    assert_eq!(rt; refused(ListedAxis::new(&edges(heap, 514)?)), Some((2, 0)));
     assert_eq!(rt; refused(EvenAxis::new(0, 1, 0)), Some((2, 0)));
     assert_eq!(rt; EvenAxis::new(0, 1, 1)?.cells(), 1);
     assert_eq!(rt; EvenAxis::new(0, 1, 512)?.cells(), 512);
@@ -63,53 +59,34 @@ fn axes_have_1_to_512_cells(rt: HostRuntime) -> Result<(), Fail> {
 
 #[test]
 fn edges_lie_in_range(rt: HostRuntime) -> Result<(), Fail> {
-    let heap = rt.alloc();
-    let widest = ListedAxis::new(heap, &[-4_194_304, 0, 4_194_304])?;
+    let widest = ListedAxis::new(&[-4_194_304, 0, 4_194_304])?;
     assert_eq!(rt; (widest.edge(0), widest.edge(2)), (-4_194_304, 4_194_304));
-    assert_eq!(rt;
-        refused(ListedAxis::new(heap, &[-4_194_305, 0, 0])),
-        Some((5, 0))
-    );
-    assert_eq!(rt;
-        refused(ListedAxis::new(heap, &[-7, 0, 4_194_305])),
-        Some((5, 2))
-    );
+    assert_eq!(rt; refused(ListedAxis::new(&[-4_194_305, 0, 0])), Some((5, 0)));
+    assert_eq!(rt; refused(ListedAxis::new(&[-7, 0, 4_194_305])), Some((5, 2)));
     assert_eq!(rt; refused(EvenAxis::new(4_194_300, 2, 3)), Some((5, 3)));
     Ok(())
 }
 
 #[test]
 fn edges_rise(rt: HostRuntime) {
-    let heap = rt.alloc();
-    assert_eq!(rt; refused(ListedAxis::new(heap, &[0, 3, 3])), Some((4, 2)));
+    assert_eq!(rt; refused(ListedAxis::new(&[0, 3, 3])), Some((4, 2)));
     assert_eq!(rt; refused(EvenAxis::new(0, 0, 3)), Some((4, 1)));
 }
 
 #[test]
 fn the_count_is_checked_before_the_range_and_the_range_before_the_rise(rt: HostRuntime) {
-    let heap = rt.alloc();
-    assert_eq!(rt; refused(ListedAxis::new(heap, &[4_194_305])), Some((2, 0)));
-    assert_eq!(rt;
-        refused(ListedAxis::new(heap, &[3, 3, 4_194_305])),
-        Some((5, 2))
-    );
+    assert_eq!(rt; refused(ListedAxis::new(&[4_194_305])), Some((2, 0)));
+    assert_eq!(rt; refused(ListedAxis::new(&[3, 3, 4_194_305])), Some((5, 2)));
 }
 
 #[test]
 fn distances_are_limited(rt: HostRuntime) -> Result<(), Fail> {
-    let heap = rt.alloc();
-    assert_eq!(rt; refused(draft(heap, 0, 2000, 1000)), Some((6, 0)));
-    draft(heap, 16_777_216, 33_554_432, 1000)?;
-    assert_eq!(rt;
-        refused(draft(heap, 16_777_217, 33_554_432, 1000)),
-        Some((6, 0))
-    );
-    assert_eq!(rt;
-        refused(draft(heap, 16_777_216, 33_554_433, 1000)),
-        Some((6, 1))
-    );
-    assert_eq!(rt; refused(draft(heap, 1000, 999, 998)), Some((6, 1)));
-    draft(heap, 1001, 1001, 1000)?;
+    assert_eq!(rt; refused(draft(0, 2000, 1000)), Some((6, 0)));
+    draft(16_777_216, 33_554_432, 1000)?;
+    assert_eq!(rt; refused(draft(16_777_217, 33_554_432, 1000)), Some((6, 0)));
+    assert_eq!(rt; refused(draft(16_777_216, 33_554_433, 1000)), Some((6, 1)));
+    assert_eq!(rt; refused(draft(1000, 999, 998)), Some((6, 1)));
+    draft(1001, 1001, 1000)?;
     Ok(())
 }
 
@@ -117,10 +94,9 @@ fn distances_are_limited(rt: HostRuntime) -> Result<(), Fail> {
 fn the_source_stands_off_the_volume_and_the_columns_reach_less_far_than_the_panel(
     rt: HostRuntime,
 ) -> Result<(), Fail> {
-    let heap = rt.alloc();
-    assert_eq!(rt; refused(draft(heap, 200, 2000, 1000)), Some((7, 0)));
-    assert_eq!(rt; refused(draft(heap, 201, 2000, 2000)), Some((8, 2)));
-    let plan = draft(heap, 201, 2000, 1999)?.seal();
+    assert_eq!(rt; refused(draft(200, 2000, 1000)), Some((7, 0)));
+    assert_eq!(rt; refused(draft(201, 2000, 2000)), Some((8, 2)));
+    let plan = draft(201, 2000, 1999)?.seal();
     assert_eq!(rt; (plan.voxels(), plan.cells(), plan.views()), (8, 4, 0));
     Ok(())
 }
@@ -129,7 +105,7 @@ fn the_source_stands_off_the_volume_and_the_columns_reach_less_far_than_the_pane
 fn views_are_numbered_up_to_1024_and_a_refused_one_is_not_added(
     rt: HostRuntime,
 ) -> Result<(), Fail> {
-    let mut draft = draft(rt.alloc(), 500, 2000, 1000)?;
+    let mut draft = draft(500, 2000, 1000)?;
     assert_eq!(rt; refused(draft.add_view(64)), Some((9, 0)));
     assert_eq!(rt; refused(draft.add_view(-1)), Some((9, 0)));
     assert_eq!(rt; draft.views(), 0);
@@ -147,7 +123,7 @@ fn views_are_numbered_up_to_1024_and_a_refused_one_is_not_added(
 
 #[test]
 fn a_view_answers_where_edges_land(rt: HostRuntime) -> Result<(), Fail> {
-    let mut draft = draft(rt.alloc(), 500, 2000, 1000)?;
+    let mut draft = draft(500, 2000, 1000)?;
     draft.add_view(0)?;
     let plan = draft.seal();
     let view = plan.view(0).ok_or("no view")?;
@@ -167,7 +143,7 @@ fn a_view_answers_where_edges_land(rt: HostRuntime) -> Result<(), Fail> {
 // The table of docs/ROWS-OF-CALLS.md.
 #[test]
 fn the_first_panel_cell_starts_where_the_formulas_say(rt: HostRuntime) -> Result<(), Fail> {
-    let plan = small(rt.alloc(), &[0, 8, 16, 24, 32])?;
+    let plan = small(&[0, 8, 16, 24, 32])?;
     let cells = [
         (-100, 0, -50, 50),
         (-129, 0, -48, 47),

@@ -1,15 +1,16 @@
 // The calls between sweeps, rows of calls, and their mirrored rows. The figures are those of tools/oracle.txt.
-use crate::small_plans::{beside, counts, mapped, pair, shown, small, uneven};
+use crate::small_plans::{beside, pair, small, uneven};
 use calls::call::Call;
 use calls::mirror::mirror;
 use calls::voxel_box::{Bounds, VoxelBox};
-use scan::failure::Failure;
 use scan::plan::Plan;
 use scan::refusal::{Refusal, Store};
 use scan::scan_axis::ScanAxis;
 use std::alloc::{AllocError, Global};
 use std::test::Fail;
-use sweeps::row::run;
+use sweeps::backprojection::back;
+use sweeps::projection::forward;
+use sweeps::row::{perform, run};
 use sweeps::scaling::scale;
 use sweeps::transfer::{give, take};
 use sweeps::trimming::trim;
@@ -29,6 +30,17 @@ struct Stores<V: Value> {
     volume: Vec<V>,
     measured: Vec<V>,
     working: Vec<V>,
+}
+
+// What a function makes of each item.
+fn mapped<T: Copy, U: Drop, F: Fn(T) -> U>(
+    heap: Global,
+    items: &[T],
+    f: F,
+) -> Result<Vec<U>, AllocError>
+    requires { F.IsAlwaysCallable f }
+{
+    items.iter().map(|&item| f(item)).collect(heap)
 }
 
 fn stores_of<V: Value, F: Fn(i64) -> V>(
@@ -99,7 +111,7 @@ fn both_sides<V: Value, F: Fn(i64) -> V>(
     value: F,
     start: [&[i64]; 3],
     test: [&[i64]; 3],
-) -> Result<Sides<V>, Failure>
+) -> Result<Sides<V>, Fail>
     requires { F.IsAlwaysCallable value }
 {
     let (there, refused) = outcome(plan, row, stores_of(heap, &value, start)?)?;
@@ -115,7 +127,7 @@ fn both_sides<V: Value, F: Fn(i64) -> V>(
 #[test]
 fn the_worked_row_and_its_mirrored_row_tell_the_same(rt: HostRuntime) -> Result<(), Fail> {
     let heap = rt.alloc();
-    let plan = small(heap, &[0])?;
+    let plan = small(&[0])?;
     let (view, factor) = (0, Count::from(1));
     let mut row = [Call::Forward { view, factor }, Call::Back { view, factor }];
     let start: [&[i64]; 3] = [&[1, 1, 1, 1], &[0, 0], &[0, 0]];
@@ -130,21 +142,20 @@ fn the_worked_row_and_its_mirrored_row_tell_the_same(rt: HostRuntime) -> Result<
 
 #[test]
 fn cells_are_taken_given_and_scaled(rt: HostRuntime) -> Result<(), Fail> {
-    let heap = rt.alloc();
-    let plan = uneven(heap)?;
-    let mut measured = counts(heap, &MEASURED)?;
-    let mut working = counts(heap, &WORKING)?;
+    let plan = uneven()?;
+    let mut measured = MEASURED.map(Count::from);
+    let mut working = WORKING.map(Count::from);
     give(&plan, 1, Count::from(-2), &mut measured, &working)?;
     let given = [100, 102, 104, 106, 108, 110, 148, 146, 144, 142, 140, 138];
-    assert_eq!(rt; shown(heap, &measured)?, given.to_vec(heap)?);
+    assert_eq!(rt; measured.map(i64::from), given);
     scale(&plan, 1, Count::from(-7), &mut working)?;
     let scaled = [-30, -28, -26, -24, -22, -20, 126, 112, 98, 84, 70, 56];
-    assert_eq!(rt; shown(heap, &working)?, scaled.to_vec(heap)?);
-    let measured = counts(heap, &MEASURED)?;
-    let mut working = counts(heap, &WORKING)?;
+    assert_eq!(rt; working.map(i64::from), scaled);
+    let measured = MEASURED.map(Count::from);
+    let mut working = WORKING.map(Count::from);
     take(&plan, 1, Count::from(5), &measured, &mut working)?;
     let taken = [-30, -28, -26, -24, -22, -20, 542, 554, 566, 578, 590, 602];
-    assert_eq!(rt; shown(heap, &working)?, taken.to_vec(heap)?);
+    assert_eq!(rt; working.map(i64::from), taken);
     Ok(())
 }
 
@@ -155,8 +166,7 @@ fn boxed(x: (usize, usize), y: (usize, usize), z: (usize, usize)) -> VoxelBox {
 
 #[test]
 fn voxels_outside_a_box_become_zero(rt: HostRuntime) -> Result<(), Fail> {
-    let heap = rt.alloc();
-    let plan = uneven(heap)?;
+    let plan = uneven()?;
     let (x, y, z) = ((0, 3), (0, 2), (0, 2));
     let cases = [
         (
@@ -178,9 +188,9 @@ fn voxels_outside_a_box_become_zero(rt: HostRuntime) -> Result<(), Fail> {
         ),
     ];
     for (within, expected) in cases {
-        let mut volume = counts(heap, &VOLUME)?;
+        let mut volume = VOLUME.map(Count::from);
         trim(&plan, within, &mut volume)?;
-        assert_eq!(rt; shown(heap, &volume)?, expected.to_vec(heap)?, "{within:?}");
+        assert_eq!(rt; volume.map(i64::from), expected, "{within:?}");
     }
     Ok(())
 }
@@ -207,12 +217,11 @@ fn other_length(store: Store, found: usize) -> Option<(u8, usize, Refusal)> {
 
 #[test]
 fn refused_calls_on_cells_leave_both_stores(rt: HostRuntime) -> Result<(), Fail> {
-    let heap = rt.alloc();
-    let plan = uneven(heap)?;
+    let plan = uneven()?;
     let f = Count::from(5);
-    let mut fit = vec![in heap; f; 12]?;
-    let mut short = vec![in heap; f; 11]?;
-    let mut long = vec![in heap; f; 13]?;
+    let mut fit = [f; 12];
+    let mut short = [f; 11];
+    let mut long = [f; 13];
     let no_view = Some((22, 0, Refusal::NoView { view: 2, views: 2 }));
     let measured = other_length(Store::Measured, 11);
     let working = other_length(Store::Working, 13);
@@ -224,7 +233,7 @@ fn refused_calls_on_cells_leave_both_stores(rt: HostRuntime) -> Result<(), Fail>
     assert_eq!(rt; told(give(&plan, 1, f, &mut fit, &long)), working);
     assert_eq!(rt; told(scale(&plan, 2, f, &mut long)), no_view);
     assert_eq!(rt; told(scale(&plan, 1, f, &mut long)), working);
-    for store in [&fit, &short, &long] {
+    for store in [fit.as_slice(), short.as_slice(), long.as_slice()] {
         assert!(rt; store.iter().all(|value| *value == f));
     }
     Ok(())
@@ -232,8 +241,7 @@ fn refused_calls_on_cells_leave_both_stores(rt: HostRuntime) -> Result<(), Fail>
 
 #[test]
 fn refused_boxes_leave_the_volume(rt: HostRuntime) -> Result<(), Fail> {
-    let heap = rt.alloc();
-    let plan = uneven(heap)?;
+    let plan = uneven()?;
     let (x, y, z) = ((0, 3), (0, 2), (0, 2));
     let cases = [
         (boxed((2, 1), y, z), ScanAxis::X, 2, 1, 3),
@@ -245,7 +253,7 @@ fn refused_boxes_leave_the_volume(rt: HostRuntime) -> Result<(), Fail> {
         (boxed((3, 2), (3, 3), (4, 2)), ScanAxis::X, 3, 2, 3),
         (boxed((3, 3), (3, 3), (4, 2)), ScanAxis::Y, 3, 3, 2),
     ];
-    let mut volume = counts(heap, &VOLUME)?;
+    let mut volume = VOLUME.map(Count::from);
     for (within, axis, lower, upper, cells) in cases {
         let refusal = Refusal::BoxBounds {
             axis,
@@ -258,11 +266,11 @@ fn refused_boxes_leave_the_volume(rt: HostRuntime) -> Result<(), Fail> {
             Some((24, 0, refusal))
         );
     }
-    assert_eq!(rt; shown(heap, &volume)?, VOLUME.to_vec(heap)?);
-    let mut short = counts(heap, &[1, 2, 3])?;
+    assert_eq!(rt; volume.map(i64::from), VOLUME);
+    let mut short = [1, 2, 3].map(Count::from);
     let made = trim(&plan, boxed((2, 1), y, z), &mut short);
     assert_eq!(rt; told(made), other_length(Store::Volume, 3));
-    assert_eq!(rt; shown(heap, &short)?, [1, 2, 3].to_vec(heap)?);
+    assert_eq!(rt; short.map(i64::from), [1, 2, 3]);
     Ok(())
 }
 
@@ -282,6 +290,79 @@ fn six<V: Value, F: Fn(i64) -> V>(heap: Global, value: F) -> Result<Vec<Call<V>>
     row.push(Call::Back { view, factor: e })?;
     row.push(Call::Trim { within })?;
     Ok(row)
+}
+
+#[test]
+fn calls_of_a_row_do_what_they_do_alone(rt: HostRuntime) -> Result<(), Fail> {
+    let heap = rt.alloc();
+    let plan = uneven()?;
+    let mut made = stores_of(heap, Count::from, [&VOLUME, &MEASURED, &WORKING])?;
+    for call in six(heap, Count::from)? {
+        perform(
+            &plan,
+            call,
+            &mut made.volume,
+            &mut made.measured,
+            &mut made.working,
+        )?;
+    }
+    // The same six.
+    let mut alone = stores_of(heap, Count::from, [&VOLUME, &MEASURED, &WORKING])?;
+    let (a, b, c) = (Count::from(-1), Count::from(5), Count::from(-7));
+    let (d, e) = (Count::from(9), Count::from(3));
+    forward(&plan, 1, a, &alone.volume, &mut alone.working)?;
+    take(&plan, 1, b, &alone.measured, &mut alone.working)?;
+    scale(&plan, 1, c, &mut alone.working)?;
+    give(&plan, 1, d, &mut alone.measured, &alone.working)?;
+    back(&plan, 1, e, &mut alone.volume, &alone.working)?;
+    trim(&plan, boxed((0, 2), (0, 2), (1, 2)), &mut alone.volume)?;
+    assert_eq!(rt; made, alone);
+    Ok(())
+}
+
+fn all_are(store: &[Count], count: Count) -> bool {
+    store.iter().all(|value| *value == count)
+}
+
+#[test]
+fn refused_calls_of_a_row_tell_why_and_leave_the_stores(rt: HostRuntime) -> Result<(), Fail> {
+    let plan = uneven()?;
+    let factor = Count::from(5);
+    let (mut volume, mut measured, mut working) = ([factor; 12], [factor; 12], [factor; 12]);
+    let within = boxed((0, 3), (0, 2), (2, 1));
+    let bounds = Refusal::BoxBounds {
+        axis: ScanAxis::Z,
+        lower: 2,
+        upper: 1,
+        cells: 2,
+    };
+    let cases = [
+        (
+            Call::Back { view: 2, factor },
+            12,
+            Some((22, 0, Refusal::NoView { view: 2, views: 2 })),
+        ),
+        (
+            Call::Take { view: 1, factor },
+            11,
+            other_length(Store::Working, 11),
+        ),
+        (Call::Trim { within }, 12, Some((24, 0, bounds))),
+    ];
+    for (call, places, why) in cases {
+        let made = perform(
+            &plan,
+            call,
+            &mut volume,
+            &mut measured,
+            &mut working[..places],
+        );
+        assert_eq!(rt; told(made), why);
+        assert!(rt;
+            all_are(&volume, factor) && all_are(&measured, factor) && all_are(&working, factor)
+        );
+    }
+    Ok(())
 }
 
 // A row, and after each of its calls two that the uneven plan refuses, for their view and for their box.
@@ -304,7 +385,7 @@ fn with_refused<V: Value>(
 #[test]
 fn a_row_on_stores_of_other_lengths_changes_nothing(rt: HostRuntime) -> Result<(), Fail> {
     let heap = rt.alloc();
-    let plan = uneven(heap)?;
+    let plan = uneven()?;
     let row = six(heap, Count::from)?;
     let five = Count::from(5);
     let cases = [
@@ -328,7 +409,7 @@ fn a_row_on_stores_of_other_lengths_changes_nothing(rt: HostRuntime) -> Result<(
 #[test]
 fn a_row_of_all_calls_goes_on_past_refused_ones(rt: HostRuntime) -> Result<(), Fail> {
     let heap = rt.alloc();
-    let plan = uneven(heap)?;
+    let plan = uneven()?;
     let row = six(heap, Count::from)?;
     let longer = with_refused(heap, &row, Count::from(11))?;
     let volume = [
@@ -353,10 +434,10 @@ fn sides_of_first<V: Value, F: Fn(i64) -> V>(
     heap: Global,
     calls: usize,
     value: F,
-) -> Result<Sides<V>, Failure>
+) -> Result<Sides<V>, Fail>
     requires { F.IsAlwaysCallable value }
 {
-    let plan = uneven(heap)?;
+    let plan = uneven()?;
     let mut row = with_refused(heap, &six(heap, &value)?, value(11))?;
     row.truncate(calls);
     let start: [&[i64]; 3] = [&VOLUME, &MEASURED, &WORKING];

@@ -1,6 +1,6 @@
 // The figures are those of tools/oracle.txt, which a program made apart from the library writes.
 use crate::outcomes::refused;
-use crate::small_plans::{counts, pair, paired, parts, shown, small, uneven, uneven_before};
+use crate::small_plans::{beside, pair, parts, small, uneven, uneven_before};
 use scan::even::EvenAxis;
 use std::test::Fail;
 use sweeps::backprojection::back;
@@ -14,29 +14,24 @@ use values::value::Value;
 
 #[test]
 fn the_worked_plan_gives_its_figures(rt: HostRuntime) -> Result<(), Fail> {
-    let heap = rt.alloc();
-    let plan = small(heap, &[0, 16])?;
-    let ones = counts(heap, &[1, 1, 1, 1])?;
-    let mut working = vec![in heap; Count::ZERO; 4]?;
+    let plan = small(&[0, 16])?;
+    let ones = [1, 1, 1, 1].map(Count::from);
+    let mut working = [Count::ZERO; 4];
     forward(&plan, 0, Count::from(1), &ones, &mut working)?;
     forward(&plan, 1, Count::from(1), &ones, &mut working)?;
-    assert_eq!(rt; shown(heap, &working)?, worked_cells().to_vec(heap)?);
-    let mut volume = vec![in heap; Count::ZERO; 4]?;
+    assert_eq!(rt; working.map(i64::from), worked_cells());
+    let mut volume = [Count::ZERO; 4];
     back(&plan, 0, Count::from(1), &mut volume, &ones)?;
-    assert_eq!(rt;
-        shown(heap, &volume)?,
-        [9120, 9025, 10000, 10000].to_vec(heap)?
-    );
+    assert_eq!(rt; volume.map(i64::from), [9120, 9025, 10000, 10000]);
     Ok(())
 }
 
 #[test]
 fn refused_calls_leave_both_stores(rt: HostRuntime) -> Result<(), Fail> {
-    let heap = rt.alloc();
-    let plan = small(heap, &[0, 16])?;
+    let plan = small(&[0, 16])?;
     let one = Count::from(1);
-    let mut four = counts(heap, &[5, 6, 7, 8])?;
-    let mut three = counts(heap, &[5, 6, 7])?;
+    let mut four = [5, 6, 7, 8].map(Count::from);
+    let mut three = [5, 6, 7].map(Count::from);
     assert_eq!(rt;
         refused(forward(&plan, 2, one, &three, &mut four)),
         Some((22, 0))
@@ -57,56 +52,44 @@ fn refused_calls_leave_both_stores(rt: HostRuntime) -> Result<(), Fail> {
         refused(back(&plan, 0, one, &mut four, &three)),
         Some((23, 0))
     );
-    assert_eq!(rt; shown(heap, &four)?, [5, 6, 7, 8].to_vec(heap)?);
-    assert_eq!(rt; shown(heap, &three)?, [5, 6, 7].to_vec(heap)?);
+    assert_eq!(rt; four.map(i64::from), [5, 6, 7, 8]);
+    assert_eq!(rt; three.map(i64::from), [5, 6, 7]);
     Ok(())
 }
 
 #[test]
 fn slabs_along_x_are_swept_both_ways(rt: HostRuntime) -> Result<(), Fail> {
-    let heap = rt.alloc();
-    let plan = small(heap, &[20])?;
-    let mut volume = counts(heap, &[1, 2, 3, 4])?;
-    let mut working = counts(heap, &[5, 5])?;
+    let plan = small(&[20])?;
+    let mut volume = [1, 2, 3, 4].map(Count::from);
+    let mut working = [5, 5].map(Count::from);
     forward(&plan, 0, Count::from(3), &volume, &mut working)?;
-    assert_eq!(rt; shown(heap, &working)?, [95129, 176351].to_vec(heap)?);
-    back(
-        &plan,
-        0,
-        Count::from(3),
-        &mut volume,
-        &counts(heap, &[7, -2])?,
-    )?;
-    assert_eq!(rt;
-        shown(heap, &volume)?,
-        [158131, 167582, -56235, -2846].to_vec(heap)?
-    );
+    assert_eq!(rt; working.map(i64::from), [95129, 176351]);
+    let cells = [7, -2].map(Count::from);
+    back(&plan, 0, Count::from(3), &mut volume, &cells)?;
+    assert_eq!(rt; volume.map(i64::from), [158131, 167582, -56235, -2846]);
     Ok(())
 }
 
 #[test]
 fn uneven_cells_are_swept_forward(rt: HostRuntime) -> Result<(), Fail> {
-    let heap = rt.alloc();
-    let plan = uneven(heap)?;
-    let volume = counts(heap, &[1, 2, 5, 10, 17, 26, 37, 50, 65, 82, 101, 122])?;
-    let mut working = vec![in heap; Count::ZERO; 12]?;
+    let plan = uneven()?;
+    let volume = [1, 2, 5, 10, 17, 26, 37, 50, 65, 82, 101, 122].map(Count::from);
+    let mut working = [Count::ZERO; 12];
     forward(&plan, 1, Count::from(-1), &volume, &mut working)?;
     assert_eq!(rt;
-        shown(heap, &working)?,
+        working.map(i64::from),
         [
             0, 0, 0, 0, 0, 0, -28840, -65035, -13520, -387958, -388848, -90012,
         ]
-        .to_vec(heap)?
     );
     Ok(())
 }
 
 #[test]
 fn pairs_are_swept_forward(rt: HostRuntime) -> Result<(), Fail> {
-    let heap = rt.alloc();
-    let plan = uneven(heap)?;
-    let volume = paired(heap, &[1, 2, 5, 10, 17, 26, 37, 50, 65, 82, 101, 122])?;
-    let mut working = vec![in heap; Pair::ZERO; 12]?;
+    let plan = uneven()?;
+    let volume = [1, 2, 5, 10, 17, 26, 37, 50, 65, 82, 101, 122].map(beside);
+    let mut working = [Pair::ZERO; 12];
     let minus = pair(-1, -1);
     forward(&plan, 0, minus, &volume, &mut working)?;
     let zero = (0, 0);
@@ -124,17 +107,16 @@ fn pairs_are_swept_forward(rt: HostRuntime) -> Result<(), Fail> {
         zero,
         zero,
     ];
-    assert_eq!(rt; parts(heap, &working)?, cells.to_vec(heap)?);
+    assert_eq!(rt; working.map(parts), cells);
     Ok(())
 }
 
 #[test]
 fn pairs_are_swept_back(rt: HostRuntime) -> Result<(), Fail> {
-    let heap = rt.alloc();
-    let plan = uneven(heap)?;
+    let plan = uneven()?;
     let minus = pair(-1, -1);
-    let cells = paired(heap, &[9, 11, 13, 15, 17, 19, 0, 0, 0, 0, 0, 0])?;
-    let mut volume = vec![in heap; Pair::ZERO; 12]?;
+    let cells = [9, 11, 13, 15, 17, 19, 0, 0, 0, 0, 0, 0].map(beside);
+    let mut volume = [Pair::ZERO; 12];
     back(&plan, 0, minus, &mut volume, &cells)?;
     let expected = [
         (-37422, -78606),
@@ -150,18 +132,17 @@ fn pairs_are_swept_back(rt: HostRuntime) -> Result<(), Fail> {
         (-50960, -104800),
         (-38000, -78000),
     ];
-    assert_eq!(rt; parts(heap, &volume)?, expected.to_vec(heap)?);
+    assert_eq!(rt; volume.map(parts), expected);
     Ok(())
 }
 
 #[test]
 fn reaches_are_swept_both_ways(rt: HostRuntime) -> Result<(), Fail> {
-    let heap = rt.alloc();
-    let plan = uneven(heap)?;
+    let plan = uneven()?;
     let yes = Reach { yes: true };
     let no = Reach { yes: false };
-    let mut volume = [yes, no, yes, no, yes, no, yes, no, yes, no, yes, no].to_vec(heap)?;
-    let mut working = vec![in heap; Reach::ZERO; 12]?;
+    let mut volume = [yes, no, yes, no, yes, no, yes, no, yes, no, yes, no];
+    let mut working = [Reach::ZERO; 12];
     forward(&plan, 1, yes, &volume, &mut working)?;
     assert_eq!(rt; tally(&working), 4);
     back(&plan, 1, yes, &mut volume, &working)?;
@@ -172,41 +153,31 @@ fn reaches_are_swept_both_ways(rt: HostRuntime) -> Result<(), Fail> {
 // More columns than a sweep takes at once, and falling S.
 #[test]
 fn more_columns_than_a_block_are_swept_forward(rt: HostRuntime) -> Result<(), Fail> {
-    let heap = rt.alloc();
-    let plan = uneven_before(heap, &EvenAxis::new(-180, 20, 18)?, &[40])?;
-    let volume = counts(heap, &[1, 2, 5, 10, 17, 26, 37, 50, 65, 82, 101, 122])?;
-    let mut working = vec![in heap; Count::ZERO; 36]?;
+    let plan = uneven_before(&EvenAxis::new(-180, 20, 18)?, &[40])?;
+    let volume = [1, 2, 5, 10, 17, 26, 37, 50, 65, 82, 101, 122].map(Count::from);
+    let mut working = [Count::ZERO; 36];
     forward(&plan, 0, Count::from(2), &volume, &mut working)?;
-    assert_eq!(rt;
-        shown(heap, &working[0..18])?,
-        [
-            19552, 29328, 29328, 32448, 26592, 28028, 30184, 28158, 28824, 21190, 16576, 17820,
-            17820, 18542, 10516, 1728, 1728, 1836,
-        ]
-        .to_vec(heap)?
-    );
-    assert_eq!(rt;
-        shown(heap, &working[18..36])?,
-        [
-            75968, 113952, 113952, 126620, 130438, 171912, 185136, 173602, 180806, 167280, 148624,
-            160740, 160740, 167496, 109232, 51232, 51232, 54434,
-        ]
-        .to_vec(heap)?
-    );
+    // The columns of row 0, and then those of row 1.
+    let expected = [
+        19552, 29328, 29328, 32448, 26592, 28028, 30184, 28158, 28824, 21190, 16576, 17820, 17820,
+        18542, 10516, 1728, 1728, 1836, 75968, 113952, 113952, 126620, 130438, 171912, 185136,
+        173602, 180806, 167280, 148624, 160740, 160740, 167496, 109232, 51232, 51232, 54434,
+    ];
+    assert_eq!(rt; working.map(i64::from), expected);
     Ok(())
 }
 
 #[test]
 fn more_columns_than_a_block_are_swept_back(rt: HostRuntime) -> Result<(), Fail> {
     let heap = rt.alloc();
-    let plan = uneven_before(heap, &EvenAxis::new(-180, 20, 18)?, &[40])?;
+    let plan = uneven_before(&EvenAxis::new(-180, 20, 18)?, &[40])?;
     let cells: Vec<Count> = (1..37).map(Count::from).collect(heap)?;
-    let mut volume = vec![in heap; Count::ZERO; 12]?;
+    let mut volume = [Count::ZERO; 12];
     back(&plan, 0, Count::from(2), &mut volume, &cells)?;
     let expected = [
         171012, 135392, 64368, 140204, 80058, 31700, 205368, 181208, 102438, 187980, 134136, 76384,
     ];
-    assert_eq!(rt; shown(heap, &volume)?, expected.to_vec(heap)?);
+    assert_eq!(rt; volume.map(i64::from), expected);
     Ok(())
 }
 
@@ -215,4 +186,11 @@ fn kinds_name_their_zeros(rt: HostRuntime) {
     assert_eq!(rt; Count::ZERO, Count::from(0));
     assert_eq!(rt; Pair::ZERO, pair(0, 0));
     assert_eq!(rt; Reach::ZERO, Reach { yes: false });
+}
+
+#[test]
+fn kinds_begin_at_their_zeros(rt: HostRuntime) {
+    assert_eq!(rt; Count::default(), Count::ZERO);
+    assert_eq!(rt; Pair::default(), Pair::ZERO);
+    assert_eq!(rt; Reach::default(), Reach::ZERO);
 }

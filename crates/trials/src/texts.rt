@@ -1,12 +1,13 @@
-// What is printed of counts, refusals, failures and numbers that no step has, and how counts convert.
+// What is printed of the kinds of value, of refusals and of numbers that no step has, and how counts convert.
+use crate::small_plans::pair;
 use geometry::no_step::NoStep;
-use scan::failure::Failure;
 use scan::refusal::{Refusal, Store};
 use scan::scan_axis::ScanAxis;
 use std::alloc::{AllocError, Global};
 use std::fmt;
 use std::test::Fail;
 use values::count::Count;
+use values::reach::Reach;
 
 // The least and the greatest number that a Count is shown as.
 const ENDS: [i64; 2] = [i64::MIN, i64::MAX];
@@ -55,6 +56,24 @@ fn texts_of_counts(rt: HostRuntime) -> Result<(), Fail> {
         (Count::from(ENDS[1]), "9223372036854775807"),
     ];
     assert!(rt; shown_as(rt.alloc(), &cases)?);
+    Ok(())
+}
+
+// A store is printed by its values' `{:?}`.
+#[test]
+fn texts_of_values_by_debug(rt: HostRuntime) -> Result<(), Fail> {
+    let heap = rt.alloc();
+    let store = [7, 0, -19_120].map(Count::from);
+    let cases = [
+        (format!(in heap; "{:?}", Count::from(-19_120))?, "-19120"),
+        (format!(in heap; "{:?}", store)?, "[7, 0, -19120]"),
+        (format!(in heap; "{:?}", pair(3, -4))?, "(3, -4)"),
+        (format!(in heap; "{:?}", Reach { yes: true })?, "yes"),
+        (format!(in heap; "{:?}", Reach { yes: false })?, "no"),
+    ];
+    for (shown, text) in &cases {
+        assert_eq!(rt; shown.as_str(), *text);
+    }
     Ok(())
 }
 
@@ -152,20 +171,6 @@ fn texts_of_refused_calls(rt: HostRuntime) -> Result<(), Fail> {
             },
             "refused by 24 at place 0",
         ),
-    ];
-    assert!(rt; shown_as(rt.alloc(), &cases)?);
-    Ok(())
-}
-
-#[test]
-fn texts_of_failures(rt: HostRuntime) -> Result<(), Fail> {
-    let refused = Failure::from(Refusal::PanelDistance {
-        at: 999,
-        source: 1000,
-    });
-    let cases = [
-        (refused, "refused by 6 at place 1"),
-        (Failure::from(AllocError), "there is no memory"),
     ];
     assert!(rt; shown_as(rt.alloc(), &cases)?);
     Ok(())
