@@ -17,7 +17,7 @@ TOP = pathlib.Path(__file__).resolve().parent.parent / "crates"
 TESTS = {"trials", "file_trials"}
 HEAD = re.compile(r"^( *)(pub(?:\(crate\))? )?(?:const )?fn (\w+)")
 BLOCK = re.compile(r"^(?:pub )?(?:trait|impl)\b.*\{$")
-GHOSTS = {"From": "from_gives", "TryFrom": "try_from_gives", "Display": "output"}
+GHOSTS = {"From": "from_gives", "TryFrom": "try_from_gives", "Display": "output", "Debug": "debug_output", "Default": "is_default"}
 
 
 @dataclass
