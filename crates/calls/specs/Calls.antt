@@ -1,4 +1,4 @@
--- What each of the six calls makes of the store that it changes; forward and back are the projection and the backprojection of De Man and Basu (2004), by one and the same weight.
+-- What each of the six calls makes of the store that it changes; forward and back go by one and the same weight.
 use Rattle.std.specs.Prelude.{ℕ, ◌+◌, ◌-◌, ◌*◌, if◌then◌else◌, List}
 use Rattle.values.specs.Laws.{Ops}
 use Rattle.values.specs.Sums.{sum}
@@ -11,12 +11,12 @@ use Rattle.calls.specs.declared.voxel_box.VoxelBox.{VoxelBox}
 abbrev pub in_cells : {V : Type 0} → Ops V → System → ℕ → (ℕ → V → V) → List V → List V
 in_cells o s v change store = built (places s) (λ i. if in_view s v i then change i (at o store i) else at o store i)
 
--- Forward: each working cell of view v gains f times the sum over all voxels of the multiple of the voxel's value by the weight.
+-- Forward: each working cell of view v gains f times its weighted sum of all voxels, where a voxel counts by the multiple of its value by the weight.
 unfoldable pub forward : {V : Type 0} → Ops V → System → ℕ → V → List V → List V → List V
 forward o s v f volume working =
     in_cells o s v (λ i cell. o.plus cell (o.times f (sum o (voxels s) (λ x. o.multiple (at o volume x) (s.weight v x (i - v * s.cells)))))) working
 
--- Back: each voxel gains f times the sum over the working cells of view v of the multiple of the cell's value by the weight.
+-- Back: each voxel gains f times its weighted sum of the working cells of view v, where a cell counts by the multiple of its value by the same weight.
 unfoldable pub back : {V : Type 0} → Ops V → System → ℕ → V → List V → List V → List V
 back o s v f working volume =
     built (voxels s) (λ x.

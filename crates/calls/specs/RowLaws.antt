@@ -6,7 +6,7 @@ use Rattle.calls.specs.Systems.{System, voxels, places}
 use Rattle.calls.specs.Rows.{Fits, outcome, mirrored}
 use Rattle.calls.specs.declared.call.Call.{Call}
 
--- The inner product of two sets of stores: the sum of the products over all places of all three.
+-- The inner product of two triples of stores: the products at all places of volume, measured and working store, added up.
 unfoldable pub inner : {V : Type 0} → Ops V → System → Stores V → Stores V → V
 inner o s a b =
     o.plus (dot o (voxels s) a.volume b.volume)

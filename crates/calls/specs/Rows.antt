@@ -45,7 +45,7 @@ outcome o s (call ∷ row) start = outcome o s row (after_call o s call start)
 abbrev pub refusals : {V : Type 0} → System → List (Call V) → ℕ
 refusals s row = count_by (λ call. not (accepted s call)) row
 
--- A call mirrored: forward and back exchanged, take and give exchanged, scale and trim kept.
+-- A call mirrored: forward becomes back, take becomes give, each the other way round too, and scale and trim stay.
 abbrev pub mirrored_call : {V : Type 0} → Call V → Call V
 mirrored_call (Forward view factor) = Back view factor
 mirrored_call (Back view factor) = Forward view factor

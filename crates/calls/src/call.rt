@@ -22,8 +22,8 @@ pub enum Call<V> {
 }
 
 impl<V: Copy> Call<V> {
-    /// The call mirrored: forward and back exchanged, take and give exchanged, scale and trim as they are. It is accepted
-    /// where the call is.
+    /// The call mirrored: forward becomes back, take becomes give, each the other way round too, and scale and trim stay.
+    /// It is accepted where the call is.
     pub fn mirrored(self) -> Call<V>
         ensures value { result ≡ mirrored_call self }
         ensures accepted { (s : System) → accepted s result ≡ accepted s self }

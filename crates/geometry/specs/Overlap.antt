@@ -1,4 +1,4 @@
--- The overlap of two stretches, whose ends stand in either order: the kernel of De Man and Basu (2004), equation (4).
+-- How much two stretches have in common, of each of which either end may come first: what every weight of the distance-driven method is made of.
 use Rattle.std.specs.Prelude.{◌≡◌, ℕ, zero, suc, ◌+◌, ◌<◌, ◌⊎◌, ℤ, pos, negsuc, ◌-ℤ◌, ◌≤ℤ◌}
 use Rattle.std.specs.Int.{int_min, int_max}
 
@@ -7,7 +7,7 @@ abbrev pub or_zero : ℤ → ℕ
 or_zero (pos n) = n
 or_zero (negsuc n) = 0
 
--- The overlap of the stretches from a0 to a1 and from b0 to b1: the lower of the upper ends less the higher of the lower ends, or 0 if that is negative.
+-- The overlap of the stretches from a0 to a1 and from b0 to b1: from the higher lower end up to the lower upper end, and 0 where they do not meet.
 abbrev pub overlap : ℤ → ℤ → ℤ → ℤ → ℕ
 overlap a0 a1 b0 b1 = or_zero (int_min (int_max a0 a1) (int_max b0 b1) -ℤ int_max (int_min a0 a1) (int_min b0 b1))
 

@@ -2,8 +2,7 @@
 ghost use Rattle.std.specs.Prelude.{◌≡◌, ◌^◌, ◌<◌, unsigned_abs};
 ghost use Rattle.geometry.specs.Floor.{floor_div, Floor};
 
-// The greatest whole number not above n / d, and 0 where d is 0, for all 64-bit numbers but the least, −2^63, whose
-// negative does not fit.
+// n / d rounded down, and 0 where d is 0, for all 64-bit numbers but the least, −2^63, whose negative does not fit.
 pub(crate) fn floor_div(n: i64, d: i64) -> i64
     requires dividend { unsigned_abs n < 2 ^ 63 }
     requires divisor { unsigned_abs d < 2 ^ 63 }

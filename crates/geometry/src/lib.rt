@@ -1,5 +1,5 @@
-//! The geometry of the distance-driven method of De Man and Basu (2004) for a cone beam and a flat panel: where the edges
-//! of voxels and of panel cells land on a common plane, and how far the stretches between two edges overlap.
+//! The geometry of the distance-driven method for a cone beam and a flat panel: where the edges of voxels and of panel
+//! cells land on a common plane, and how far the stretches between two edges overlap.
 #![tactic(auto)]
 
 pub mod cell;

@@ -30,7 +30,7 @@ impl Fault {
         }
     }
 
-    /// The byte at which what is refused begins, counted from 0.
+    /// The byte at which what is refused begins, counted from 0; and 0 where a store has another length, which is no byte.
     pub fn place(&self) -> usize
         ensures { result ≡ place self.now }
     {

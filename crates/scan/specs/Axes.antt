@@ -17,7 +17,7 @@ pub record Proper (es : List ℤ) : Type 0 where
   pub rises : Rises es
   pub within : Within es
 
--- The number of cells, one less than that of edges: cell i lies between edges i and i + 1.
+-- The number of cells, one less than that of edges: each lies between two neighbouring edges.
 abbrev pub cells_of : List ℤ → ℕ
 cells_of es = length es - 1
 

@@ -16,7 +16,7 @@ distances_check source panel =
     option_or (refused_where (int_lt source (pos 1) || int_lt (pos 16777216) source) (SourceDistance source))
     (refused_where (int_lt panel source || int_lt (pos 33554432) panel) (PanelDistance panel source))
 
--- 7 where D is at most twice the greatest |edge| of x and y.
+-- 7 where the source is too near: D is no more than twice the widest |edge| of x and y.
 abbrev pub source_check : ℤ → List ℤ → List ℤ → Option Refusal
 source_check source x y = refused_where (nat_le (unsigned_abs source) (2 * widest x y)) (SourceTooNear source (pos (widest x y)))
 

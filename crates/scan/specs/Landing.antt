@@ -1,4 +1,4 @@
--- Where the edges of one view land on the common plane, and the weights that follow: the areas of overlap of De Man and Basu (2004), section 2.3.
+-- Where the edges of one view land on the common plane, and the weights that follow: the area in which a voxel and a panel cell overlap there.
 use Rattle.std.specs.Prelude.{ℕ, ◌+◌, ◌*◌, ◌/◌, ◌%◌, ◌^◌, ◌<◌, ◌≤◌, ◌⊎◌, ℤ, ◌≤ℤ◌, unsigned_abs}
 use Rattle.geometry.specs.Overlap.{overlap}
 use Rattle.geometry.specs.declared.direction.SlabAxis.{SlabAxis}
@@ -54,15 +54,15 @@ cross_of L x = by_slabs L.along (x / nx L % ny L) (x % nx L)
 abbrev pub height_of : Landing → ℕ → ℕ
 height_of L x = x / nx L / ny L
 
--- The in-plane overlap, o1 of the paper, of the cross cell i of slab j with column k: that of its U stretch and the column's S stretch.
+-- The cross overlap of the cross cell i of slab j with column k: that of its U stretch and the column's S stretch.
 unfoldable pub cross_overlap : Landing → ℕ → ℕ → ℕ → ℕ
 cross_overlap L j i k = overlap (L.U j i) (L.U j (i + 1)) (L.S k) (L.S (k + 1))
 
--- The out-of-plane overlap, o2 of the paper, of height l of slab j with row m of column k: that of its W stretch and the cell's T stretch.
+-- The height overlap of height l of slab j with row m of column k: that of its W stretch and the cell's T stretch.
 unfoldable pub height_overlap : Landing → ℕ → ℕ → ℕ → ℕ → ℕ
 height_overlap L j l k m = overlap (L.W j l) (L.W j (l + 1)) (L.T k m) (L.T k (m + 1))
 
--- The weight of the voxel at place x and the cell at place c: the product of their two overlaps, which is the area in which they overlap.
+-- The weight of the voxel at place x and the cell at place c: the product of their cross overlap and their height overlap.
 unfoldable pub weight : Landing → ℕ → ℕ → ℕ
 weight L x c =
     cross_overlap L (slab_of L x) (cross_of L x) (c % L.columns)

@@ -3,7 +3,7 @@ use Rattle.std.specs.Prelude.{ℕ, ◌*◌, ◌^◌, ◌<◌, ◌≤◌, List, l
 use Rattle.scan.specs.Axes.{Proper, widest}
 use Rattle.scan.specs.Scans.{Scan}
 
--- D is above twice the greatest |edge| of x and y.
+-- The source is clear of the volume: twice the widest |edge| of x and y stays below D.
 abbrev pub SourceClear : ℤ → List ℤ → List ℤ → Type 0
 SourceClear source x y = 2 * widest x y < unsigned_abs source
 
@@ -11,7 +11,7 @@ SourceClear source x y = 2 * widest x y < unsigned_abs source
 abbrev pub ColumnsNearer : ℤ → List ℤ → Type 0
 ColumnsNearer panel column = (i : ℕ) → i < length column → unsigned_abs (slice_index_or column i (pos 0)) < unsigned_abs panel
 
--- The limits: 1 <= D <= 2^24, D <= F <= 2^25, five proper axes, D above twice the greatest |edge| of x and y, F above |edge| for every column edge, steps from 0 to 63, and at most 1,024 views.
+-- The limits: 1 <= D <= 2^24, D <= F <= 2^25, five proper axes, a source clear of the volume, column edges nearer to 0 than F, steps from 0 to 63, and at most 1,024 views.
 pub record Fitted (scan : Scan) : Type 0 where
   pub source_least : pos 1 ≤ℤ scan.source
   pub source_most : scan.source ≤ℤ pos (2 ^ 24)

@@ -9,7 +9,7 @@ use Rattle.scan.specs.Landing.{Sound}
 use Rattle.scan.specs.Scans.{Scan}
 use Rattle.scan.specs.Views.{cross_edges, slab_sum_of, column_sum_of, step_of, landing, weight_of}
 
--- No divisor of U, W, S and T is zero, and no numerator exceeds 2^62 in magnitude.
+-- The four fractions can be worked out: their divisors are not zero, and their numerators lie from -2^62 to 2^62.
 pub record SafeDivisions (scan : Scan) (along : SlabAxis) (a b : ℤ) : Type 0 where
   pub slab_divisor : (j : ℕ) → 0 < unsigned_abs (depth scan.source a (slab_sum_of scan along j))
   pub cross_dividend : (j i : ℕ) → unsigned_abs (scan.source *ℤ (pos 2 *ℤ edge_of (cross_edges scan along) i *ℤ a +ℤ slab_sum_of scan along j *ℤ b)) ≤ 2 ^ 62
@@ -19,7 +19,7 @@ pub record SafeDivisions (scan : Scan) (along : SlabAxis) (a b : ℤ) : Type 0 w
   pub row_divisor : (k : ℕ) → 0 < unsigned_abs (panel_depth (pos 2 *ℤ scan.panel) a b (column_sum_of scan k))
   pub row_dividend : (m : ℕ) → unsigned_abs (pos 2 *ℤ scan.source *ℤ a *ℤ edge_of scan.row m) ≤ 2 ^ 62
 
--- What is known of view v: it is sound; rounding down gives the greatest whole number not above a fraction, whatever fraction; no divisor is zero and no numerator exceeds 2^62; S rises where a is positive and falls where a is negative; and every weight is below 2^52.
+-- What is known of view v: it is sound; rounding down gives the greatest whole number not above a fraction, whatever fraction; its divisions are safe; S rises where a is positive and falls where a is negative; and every weight is below 2^52.
 pub record ViewFacts (scan : Scan) (v : ℕ) : Type 0 where
   pub sound : Sound (landing scan v)
   pub floors : Floors

@@ -7,7 +7,7 @@ pub const MOST_CELLS: usize = 512;
 /// How many edges an axis may have.
 pub const MOST_EDGES: usize = MOST_CELLS + 1;
 
-/// The edges of the cells along one direction. A number past the last is answered as the last.
+/// The edges of the cells along one direction. Past the last edge the last one is answered.
 pub trait Axis {
     ghost edges: { Self → List ℤ };
 

@@ -3,7 +3,7 @@ ghost use Rattle.scan.specs.Landing.{Landing, Sound};
 
 use geometry::direction::SlabAxis;
 
-/// One view of a scan, by where its edges land on the common plane. A number past the last is answered as the last.
+/// One view of a scan, by where its edges land on the common plane. Past the last slab, column or edge the last is meant.
 /// Five numbers of cells are five methods: calls read better by name than by a key, and slabs and crosses are no axes of
 /// a scan.
 pub trait Landed {

@@ -25,7 +25,7 @@ pub enum Refusal {
         least: usize,
         most: usize,
     },
-    /// An edge is not above the one before it.
+    /// An edge does not rise above its neighbour before it.
     NotRising {
         edge: usize,
         before: i64,
@@ -45,7 +45,7 @@ pub enum Refusal {
         at: i64,
         source: i64,
     },
-    /// The source stands no farther than twice the greatest |edge| of x and y.
+    /// The source is too near: D is no more than twice the widest |edge| of x and y.
     SourceTooNear {
         source: i64,
         widest: i64,

@@ -90,7 +90,7 @@ pub record Figures : Type 0 where
   -- step 0, the slab from -100 to 0: U, and W
   pub far_U : map ((from 0).U 0) (0 ∷ 1 ∷ 2 ∷ []) ≡ minus 96 ∷ pos 0 ∷ pos 95 ∷ []
   pub far_W : map ((from 0).W 0) (0 ∷ 1 ∷ []) ≡ minus 48 ∷ pos 47 ∷ []
-  -- step 0: back from cells 1, 1 onto zeros, its inner product with ones, and forward's with the cells
+  -- step 0: what back from cells 1, 1 makes of zeros, the inner product of that with ones, and forward's with the cells
   pub back_voxels : map shown (back count_ops (at_step 0) 0 (counted 1) (counts (1 ∷ 1 ∷ [])) zeros) ≡ pos 9120 ∷ pos 9025 ∷ pos 10000 ∷ pos 10000 ∷ []
   pub back_inner : shown (dot count_ops 4 (back count_ops (at_step 0) 0 (counted 1) (counts (1 ∷ 1 ∷ [])) zeros) ones) ≡ pos 38145
   pub forward_inner : shown (dot count_ops 2 (forward count_ops (at_step 0) 0 (counted 1) ones (counts (0 ∷ 0 ∷ []))) (counts (1 ∷ 1 ∷ []))) ≡ pos 38145

@@ -7,12 +7,12 @@ use Rattle.scan.specs.Landing.{Landing, voxels, slab_of, cross_of, height_of, cr
 use Rattle.scan.specs.Scans.{Scan}
 use Rattle.scan.specs.Views.{landing}
 
--- The cross shadow of the voxel at place x inside the panel: the overlap of its U stretch with the stretch from the first S edge to the last.
+-- The cross shadow of the voxel at place x inside the panel: how far its U stretch overlaps all columns taken as one stretch.
 abbrev pub cross_shadow_in_panel : Landing → ℕ → ℕ
 cross_shadow_in_panel L x =
     overlap (L.U (slab_of L x) (cross_of L x)) (L.U (slab_of L x) (cross_of L x + 1)) (L.S 0) (L.S L.columns)
 
--- The height shadow of the voxel at place x inside column k: the overlap of its W stretch with the stretch from the column's first T edge to its last.
+-- The height shadow of the voxel at place x inside column k: how far its W stretch overlaps the column's cells taken as one stretch.
 abbrev pub height_shadow_in_column : Landing → ℕ → ℕ → ℕ
 height_shadow_in_column L x k =
     overlap (L.W (slab_of L x) (height_of L x)) (L.W (slab_of L x) (height_of L x + 1)) (L.T k 0) (L.T k L.rows)

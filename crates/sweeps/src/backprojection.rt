@@ -13,8 +13,8 @@ use scan::plan::Plan;
 use scan::refusal::Refusal;
 use values::value::Value;
 
-/// Backprojection: adds to each voxel the factor times the sum over the view's working cells of the multiple of the value
-/// by the weight. The working store is only lent.
+/// Backprojection: each voxel gains the factor times its weighted sum of the view's working cells, in which a cell counts
+/// by the multiple of its value by the weight. The working store is only lent.
 pub fn back<V: Value>(
     plan: &Plan,
     view: usize,

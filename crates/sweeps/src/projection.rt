@@ -13,8 +13,8 @@ use scan::plan::Plan;
 use scan::refusal::Refusal;
 use values::value::Value;
 
-/// Forward projection: adds to each working cell of the view the factor times the sum over all voxels of the multiple of
-/// the value by the weight. The volume is only lent.
+/// Forward projection: each working cell of the view gains the factor times its weighted sum of all voxels, in which a
+/// voxel counts by the multiple of its value by the weight. The volume is only lent.
 pub fn forward<V: Value>(
     plan: &Plan,
     view: usize,

@@ -1,14 +1,14 @@
 -- Kinds of value: what can be done with them, and the laws that they keep.
 use Rattle.std.specs.Prelude.{◌≡◌, ℕ, ◌+◌}
 
--- What a kind of value can do: its zero, its sum, its product, and the multiple of a value by a whole number from 0 on.
+-- What a kind of value has: a zero, two ways to join two values (sum and product), and a way to take one n times over (multiple).
 pub record Ops (V : Type 0) : Type 0 where
   pub zero : V
   pub plus : V → V → V
   pub times : V → V → V
   pub multiple : V → ℕ → V
 
--- What a kind of value must show, and no more: sum and product are commutative and associative, x + zero = x, x (y + z) = x y + x z, x times zero = zero, the multiple by 0 is zero, and the multiple by n + 1 is the multiple by n plus the value.
+-- All that a kind of value must show: the order and the grouping of a sum or a product do not matter, x + zero = x, x (y + z) = x y + x z, x zero = zero, and x taken n times over is x added n times to zero.
 pub record Laws {V : Type 0} (o : Ops V) : Type 0 where
   pub plus_comm : (x y : V) → o.plus x y ≡ o.plus y x
   pub plus_assoc : (x y z : V) → o.plus (o.plus x y) z ≡ o.plus x (o.plus y z)

@@ -1,4 +1,4 @@
--- Pair: two Counts, for images of two materials, each part worked by itself.
+-- Pair: the Counts of two materials side by side, which never mix.
 use Rattle.std.specs.Prelude.{ℕ, List, ◌++◌, codes}
 use Rattle.values.specs.Laws.{Ops}
 use Rattle.values.specs.Counts.{count_ops, count_text}
@@ -9,7 +9,7 @@ use Rattle.values.specs.declared.pair.Pair.{Pair}
 abbrev pub paired : Count → Count → Pair
 paired a b = record { first = a; second = b }
 
--- Each part is worked by itself, as a Count.
+-- What is done to a Pair is done to each of its Counts.
 abbrev pub pair_ops : Ops Pair
 pair_ops = record {
   zero = paired count_ops.zero count_ops.zero;

@@ -1,4 +1,4 @@
--- Reach: yes or no; its sum is "either", its product is "both".
+-- Reach: yes or no, where a sum says whether either is yes, and a product whether both are.
 use Rattle.std.specs.Prelude.{Bool, false, ◌||◌, ◌&&◌, if◌then◌else◌, ℕ, zero, suc, List, codes}
 use Rattle.values.specs.Laws.{Ops}
 use Rattle.values.specs.declared.reach.Reach.{Reach}

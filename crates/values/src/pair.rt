@@ -6,7 +6,7 @@ use crate::count::Count;
 use crate::value::Value;
 use std::fmt;
 
-/// Two Counts, for images of two materials.
+/// The Counts of two materials side by side.
 #[derive(Clone, Copy, PartialEq, Eq, Default)]
 pub struct Pair {
     pub first: Count,
