@@ -23,7 +23,7 @@ pub enum Call<V> {
 
 impl<V: Copy> Call<V> {
     /// The call mirrored: forward becomes back, take becomes give, each the other way round too, and scale and trim stay.
-    /// It is accepted where the call is.
+    /// It is accepted where the call is. Defined by `mirrored_call` of specs/Rows.
     pub fn mirrored(self) -> Call<V>
         ensures value { result ≡ mirrored_call self }
         ensures accepted { (s : System) → accepted s result ≡ accepted s self }

@@ -9,14 +9,16 @@ pub struct Bounds {
 }
 
 impl Bounds {
-    /// Whether a number lies in the bounds: the lower one is included, the upper one is not.
+    /// Whether a number lies in the bounds: the lower one is included, the upper one is not. Defined by `contains` of
+    /// specs/Boxes.
     pub fn contains(self, number: usize) -> bool
         ensures { result ≡ contains self number }
     {
         self.lower <= number && number < self.upper
     }
 
-    /// Whether the bounds are in order, the upper one no more than the cells of the axis.
+    /// Whether the bounds are in order, the upper one no more than the cells of the axis. Defined by `bounds_fit` of
+    /// specs/Boxes.
     pub fn fit(self, cells: usize) -> bool
         ensures { result ≡ bounds_fit self cells }
     {

@@ -32,6 +32,7 @@ impl Stretch {
 
     /// How far two stretches overlap. The overlaps of a stretch with stretches that follow one another one way add up to
     /// its overlap with the whole: nothing is lost or counted twice. Which end of a stretch comes first does not matter.
+    /// Defined by `overlap` of specs/Overlap.
     pub fn overlap(self, other: Stretch) -> u64
         ensures value { result ≡ overlap self.low self.high other.low other.high }
         ensures conserved { OverlapsAddUp }

@@ -24,7 +24,8 @@ fn sine_of(r: usize) -> i64
     SINES[r]
 }
 
-/// The sine and the cosine of a step, counted counter-clockwise from the y axis.
+/// The sine and the cosine of a step, counted counter-clockwise from the y axis, in 16384ths. Defined by `sin_of` and
+/// `cos_of` of specs/Turn.
 pub fn heading(step: Step) -> Heading
     ensures sin { result.s ≡ sin_of step.number }
     ensures cos { result.c ≡ cos_of step.number }
@@ -42,7 +43,8 @@ pub fn heading(step: Step) -> Heading
     quarters[number / QUARTER]
 }
 
-/// The slab axis of a step, and the a and b that go with it.
+/// The slab axis of a step, and the a and b that go with it, in 16384ths. Defined by `slab_axis`, `main_of` and `side_of`
+/// of specs/Directions.
 pub fn direction(step: Step) -> Direction
     ensures slabs { result.slabs ≡ slab_axis step.number }
     ensures main { result.a ≡ main_of step.number }

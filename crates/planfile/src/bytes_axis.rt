@@ -18,7 +18,7 @@ pub struct BytesAxis<'a> {
 }
 
 impl<'a> BytesAxis<'a> {
-    /// The axis of these edges, which are not copied. Checks 2, 5, 4.
+    /// The axis of these 2 to 513 edges, which are not copied. Checks 2, 5, 4, by `listed_check` of scan/specs/AxisChecks.
     pub fn new(edges: Numbers<'a>) -> Result<BytesAxis<'a>, Refusal>
         ensures { Verdict (listed_check (numbers_in edges.entry.bytes.now)) (λ a. ⟦<BytesAxis<'static> as Axis>⟧.edges a ≡ numbers_in edges.entry.bytes.now) result }
     {

@@ -19,7 +19,7 @@ pub enum Fault {
 }
 
 impl Fault {
-    /// The number of the condition: a number, since that is what users look up.
+    /// The number of the condition: a number, since that is what users look up. Defined by `number` of specs/Faults.
     pub fn number(&self) -> u8
         ensures { result ≡ number self.now }
     {
@@ -31,6 +31,7 @@ impl Fault {
     }
 
     /// The byte at which what is refused begins, counted from 0; and 0 where a store has another length, which is no byte.
+    /// Defined by `place` of specs/Faults.
     pub fn place(&self) -> usize
         ensures { result ≡ place self.now }
     {

@@ -25,14 +25,14 @@ pub struct Numbers<'a> {
 }
 
 impl Numbers<'_> {
-    /// How many there are.
+    /// How many there are. Defined by `numbers_in` of specs/Numbers.
     pub fn len(&self) -> usize
         ensures { result ≡ length (numbers_in self.now.bytes.now) }
     {
         self.bytes.len() / 4
     }
 
-    /// Number i, counted from 0; past the last, 0.
+    /// Number i, counted from 0; past the last, 0. Defined by `numbers_in` of specs/Numbers.
     pub fn number(&self, i: usize) -> i32
         ensures { result ≡ edge_or_zero (numbers_in self.now.bytes.now) i }
     {

@@ -57,7 +57,9 @@ fn plan_and_rest(bytes: &[u8]) -> Result<(Plan, &[u8]), Fault>
 }
 
 /// Reads the plan at the front of the bytes, and hands back the rest of them. Checks each section in turn, 1, 2 and 1 and
-/// then its own: 6 for the distances, 5 and 4 for each axis, with 7 and 8 after the last, and 9 for the steps.
+/// then its own: 6 for the distances, 5 and 4 for each axis, with 7 and 8 after the last, and 9 for the steps. Places are
+/// bytes, counted from 0. Defined by `plan_check` of specs/FileChecks, `scan_in` of specs/Plans and `written` of
+/// specs/Written.
 pub fn read_plan(bytes: &[u8]) -> Result<(Plan, &[u8]), Fault>
     ensures answer { let b = bytes.now in
         Verdict (plan_check b) (λ read. (plan_of read.0 ≡ scan_in b) × (read.1.now ≡ drop (start b 7) b) × (start b 7 ≤ length b)) result }

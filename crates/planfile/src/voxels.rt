@@ -18,8 +18,8 @@ use scan::plan::Plan;
 use scan::refusal::{Refusal, Store};
 use values::count::Count;
 
-/// The values of the plan's voxels, from a byte of the bytes on, as numbers that are lent on: nothing is copied or written.
-/// Checks 1, 2, 1, 3.
+/// The values of the plan's voxels, from byte `start` on, as numbers that are lent on: nothing is copied or written. Checks
+/// 1, 2, 1, 3, by `voxels_check` of specs/FileChecks; places count from byte 0.
 #[tactic(auto, using(std::proofs::lemmas::Result::err_from_is_err_and, crate::proofs::Values::values_long))]
 pub fn voxel_values<'a>(plan: &Plan, bytes: &'a [u8], start: usize) -> Result<Numbers<'a>, Fault>
     ensures { let n = voxels_of (plan_of plan.now) in
@@ -50,8 +50,9 @@ fn write(values: &Numbers<'_>, volume: &mut [Count])
     }
 }
 
-/// Reads the values of the plan's voxels into a volume store, from a byte of the bytes on. Checks 1, 2, 1, 3, 23, all before
-/// it writes.
+/// Reads the values of the plan's voxels into a volume store of `plan.voxels()` values, from byte `start` on. Checks 1, 2,
+/// 1, 3, 23, by `values_check` of specs/FileChecks, all before it writes; places count from byte 0. Defined by `values_in`
+/// of specs/Plans.
 #[tactic(auto, using(std::proofs::lemmas::Result::err_from_is_err_and), unfolding(crate::specs::FileChecks::values_check, crate::specs::Plans::values_in))]
 pub fn read_values_from(
     plan: &Plan,
@@ -77,8 +78,9 @@ pub fn read_values_from(
     Ok(())
 }
 
-/// Reads the values of the plan's voxels into a volume store. Places count from the first of the bytes. Checks 1, 2, 1, 3,
-/// 23, all before it writes.
+/// Reads the values of the plan's voxels into a volume store of `plan.voxels()` values. Places count from the first of the
+/// bytes. Checks 1, 2, 1, 3, 23, by `values_check` of specs/FileChecks, all before it writes. Defined by `values_in` of
+/// specs/Plans.
 pub fn read_values(plan: &Plan, bytes: &[u8], volume: &mut [Count]) -> Result<(), Fault>
     ensures answer { result_err result ≡ values_check bytes.now 0 (voxels_of (plan_of plan.now)) (length volume.old) }
     ensures volume { volume.new

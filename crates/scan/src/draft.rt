@@ -22,7 +22,8 @@ pub struct Draft {
 }
 
 impl<X: Axis, Y: Axis, C: Axis> Accepted<'_, X, Y, C> {
-    /// The draft with no views. It keeps the edges that the axes answer.
+    /// The draft with no views. It keeps the edges that the axes answer. Never refused. Defined by `without_views` of
+    /// specs/Scans.
     pub fn draft<Z: Axis, R: Axis>(self, z: &Z, row: &R) -> Draft
         ensures { draft_of result ≡ without_views self.entry.distances.source self.entry.distances.panel (X.Axis.edges self.entry.x.now) (Y.Axis.edges self.entry.y.now) (Z.Axis.edges z.now) (C.Axis.edges self.entry.column.now) (R.Axis.edges row.now) }
     {
@@ -41,8 +42,9 @@ impl<X: Axis, Y: Axis, C: Axis> Accepted<'_, X, Y, C> {
 }
 
 impl Draft {
-    /// A draft with no views: how far the source and the panel stand, and the axes of the volume and of the panel.
-    /// Checks 6 for D, 6 for F, 7, 8. The axes are no struct of five, since each may be of a type of its own.
+    /// A draft with no views: how far the rotation axis and the panel stand from the source, in the user's unit, and the
+    /// axes of the volume and of the panel. Checks 6 for D, 6 for F, 7, 8, by `draft_check` of specs/DraftChecks; what it
+    /// holds is `without_views` of specs/Scans. The axes are no struct of five, since each may be of a type of its own.
     pub fn new<X: Axis, Y: Axis, Z: Axis, C: Axis, R: Axis>(
         source: i32,
         panel: i32,
@@ -59,7 +61,8 @@ impl Draft {
         Ok(accepted.draft(z, row))
     }
 
-    /// Adds a view from a step of the turn, and says its number. Checks 9, 21.
+    /// Adds a view from a step of the turn, 0 to 63, and says its number, counted from 0. Checks 9, 21, by `view_check` of
+    /// specs/DraftChecks; a draft that refuses is as it was.
     pub fn add_view(&mut self, step: i32) -> Result<usize, Refusal>
         ensures value { Verdict (view_check (length (draft_of self.old).steps) step) (λ n. n ≡ length (draft_of self.old).steps) result }
         ensures after { draft_of self.new ≡ elim result [ Ok n ↦ with_view (draft_of self.old) (unsigned_abs step) | Err e ↦ draft_of self.old ] }
@@ -77,7 +80,8 @@ impl Draft {
         self.layout.views()
     }
 
-    /// The plan of the scan as it stands.
+    /// The plan of the scan as it stands. Never refused; the draft is used up. What every plan keeps is `Fitted` of
+    /// specs/Limits.
     pub fn seal(self) -> Plan
         ensures holds { plan_of result ≡ draft_of self }
         ensures fitted { Fitted (plan_of result) }

@@ -11,7 +11,8 @@ use crate::refusal::Refusal;
 use geometry::distances::{Distances, FARTHEST_PANEL, FARTHEST_SOURCE};
 use geometry::step::Step;
 
-/// The distances D, from the source to the rotation axis, and F, from the source to the panel. Checks 6 for D, 6 for F.
+/// The distances D, from the source to the rotation axis, and F, from the source to the panel, in the user's unit. Checks 6
+/// for D, 6 for F, by `distances_check` of specs/DraftChecks.
 // No `TryFrom`: this crate may not write it, and in that of `Distances` it would need two refusals of its own, which are
 // these two again.
 pub fn check_distances(source: i32, panel: i32) -> Result<Distances, Refusal>
@@ -29,7 +30,8 @@ pub fn check_distances(source: i32, panel: i32) -> Result<Distances, Refusal>
 }
 
 impl<'a, X: Axis, Y: Axis, C: Axis> Accepted<'a, X, Y, C> {
-    /// Distances, and the axes that are to go with them. Checks 7, 8, and copies nothing.
+    /// Distances, and the axes that are to go with them. Checks 7, 8, by `clearance_check` of specs/DraftChecks, and copies
+    /// nothing.
     pub fn new(
         distances: Distances,
         x: &'a X,

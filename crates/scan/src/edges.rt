@@ -21,7 +21,7 @@ pub trait Edges {
         ensures { result ≡ edge_or_zero (edges self.now) i };
 }
 
-/// Refuses a count outside its limits (2).
+/// Refuses a count outside its limits (2), by `count_check` of specs/AxisChecks.
 pub fn check_count(found: usize, least: usize, most: usize) -> Result<(), Refusal>
     ensures { Verdict (count_check found least most) (λ _. Unit {0}) result }
 {
@@ -71,7 +71,8 @@ pub(crate) fn check_edges<E: Edges>(edges: &E) -> Result<(), Refusal>
     Ok(())
 }
 
-/// The checks of an axis whose edges are listed, wherever they are kept: 2, 5, 4. Edges that pass are those of an axis.
+/// The checks of an axis whose edges are listed, wherever they are kept: 2, 5, 4, by `listed_check` of specs/AxisChecks.
+/// Edges that pass are those of an axis.
 #[tactic(auto, using(crate::proofs::Propers::listed_proper))]
 pub fn check_listed<E: Edges>(edges: &E) -> Result<(), Refusal>
     ensures { Verdict (listed_check (E.edges edges.now)) (λ _. Proper (E.edges edges.now)) result }

@@ -49,7 +49,8 @@ pub struct EvenAxis {
 }
 
 impl EvenAxis {
-    /// The axis of cells from `first` up, each as wide as `pitch`. Checks 2, 5, 4.
+    /// The axis of 1 to 512 cells from `first` up, each as wide as `pitch`, both in the user's unit. Checks 2, 5, 4, by
+    /// `even_check` of specs/AxisChecks; its edges are `even_edges` of specs/Axes.
     pub fn new(first: i32, pitch: i32, cells: usize) -> Result<EvenAxis, Refusal>
         ensures { Verdict (even_check first pitch cells) (λ a. ⟦<EvenAxis as Axis>⟧.edges a ≡ even_edges first pitch cells) result }
     {

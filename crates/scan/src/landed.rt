@@ -33,19 +33,19 @@ pub trait Landed {
     fn rows(&self) -> usize
         ensures { result ≡ (landing self.now).rows };
 
-    /// U: where edge i of the cross axis lands in a slab.
+    /// U: where edge i of the cross axis lands in a slab, in whole units.
     fn cross_edge(&self, slab: usize, i: usize) -> i64
         ensures { result ≡ (landing self.now).U slab i };
 
-    /// W: where edge l of the z axis lands in a slab.
+    /// W: where edge l of the z axis lands in a slab, in whole units.
     fn height_edge(&self, slab: usize, l: usize) -> i64
         ensures { result ≡ (landing self.now).W slab l };
 
-    /// S: where edge k of the panel columns lands.
+    /// S: where edge k of the panel columns lands, in whole units.
     fn column_edge(&self, k: usize) -> i64
         ensures { result ≡ (landing self.now).S k };
 
-    /// T: where edge m of the panel rows lands in a column.
+    /// T: where edge m of the panel rows lands in a column, in whole units.
     fn row_edge(&self, column: usize, m: usize) -> i64
         ensures { result ≡ (landing self.now).T column m };
 

@@ -47,7 +47,7 @@ pub struct ListedAxis {
 }
 
 impl ListedAxis {
-    /// The axis of these edges. Checks 2, 5, 4.
+    /// The axis of these 2 to 513 edges, in the user's unit. Checks 2, 5, 4, by `listed_check` of specs/AxisChecks.
     pub fn new(edges: &[i32]) -> Result<ListedAxis, Refusal>
         ensures { Verdict (listed_check edges.now) (λ a. ⟦<ListedAxis as Axis>⟧.edges a ≡ edges.now) result }
     {

@@ -18,7 +18,7 @@ pub struct Plan {
 }
 
 impl Plan {
-    /// The number of views.
+    /// The number of views, at most 1,024.
     pub fn views(&self) -> usize
         ensures value { result ≡ length (plan_of self.now).steps }
         ensures most { result ≤ 1024 }
@@ -26,7 +26,7 @@ impl Plan {
         self.layout.views()
     }
 
-    /// The number of cells of an axis.
+    /// The number of cells of an axis, 1 to 512. Defined by `edges_along` of specs/Scans.
     pub fn cells_along(&self, axis: ScanAxis) -> usize
         ensures value { result ≡ cells_of (edges_along (plan_of self.now) axis) }
         ensures least { 1 ≤ result }
@@ -35,7 +35,8 @@ impl Plan {
         self.layout.axis(axis).cells()
     }
 
-    /// The number of voxels of the volume.
+    /// The number of voxels, which a volume store has as its length: with nx, ny, nz cells along x, y, z, voxel (i, j, l)
+    /// stands at place (l·ny + j)·nx + i. Defined by `voxels_of` of specs/Scans.
     pub fn voxels(&self) -> usize
         ensures value { result ≡ voxels_of (plan_of self.now) }
         ensures most { result ≤ 134217728 }
@@ -45,7 +46,7 @@ impl Plan {
             * self.cells_along(ScanAxis::X)
     }
 
-    /// The number of panel cells in one view.
+    /// The number of panel cells in one view: rows times columns. Defined by `panel_cells_of` of specs/Scans.
     pub fn cells(&self) -> usize
         ensures value { result ≡ panel_cells_of (plan_of self.now) }
         ensures most { result ≤ 262144 }
@@ -53,7 +54,8 @@ impl Plan {
         self.cells_along(ScanAxis::Row) * self.cells_along(ScanAxis::Column)
     }
 
-    /// The number of places of a working store: a place for each panel cell of each view.
+    /// The number of panel cells over all views, which a measured or working store has as its length: row m and column k
+    /// of view v stand at place (v·rows + m)·columns + k. Defined by `places_of` of specs/Scans.
     pub fn places(&self) -> usize
         ensures value { result ≡ places_of (plan_of self.now) }
         ensures most { result ≤ 268435456 }

@@ -85,7 +85,7 @@ pub enum Refusal {
 }
 
 impl Refusal {
-    /// The number of the condition: a number, since that is what users look up.
+    /// The number of the condition: a number, since that is what users look up. Defined by `number` of specs/Refusals.
     pub fn number(&self) -> u8
         ensures { result ≡ number self.now }
     {
@@ -104,7 +104,8 @@ impl Refusal {
         }
     }
 
-    /// Which of several of its kind the condition is about: the number of an edge, or of a distance.
+    /// Which of several of its kind the condition is about: the number of an edge, 0 for D and 1 for F, and else 0. Defined
+    /// by `place` of specs/Refusals.
     pub fn place(&self) -> usize
         ensures { result ≡ place self.now }
     {

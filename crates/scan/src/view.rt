@@ -24,7 +24,8 @@ pub struct View<'a> {
 }
 
 impl Plan {
-    /// The view of a number.
+    /// The view of a number, or none where the plan has no such view. Where its edges land is `landing` of specs/Views, and
+    /// what holds of every view is `ViewFacts` of specs/ViewFacts.
     pub fn view(&self, view: usize) -> Option<View<'_>>
         ensures { elim result [ Some w ↦ (view < length (plan_of self.now).steps) × (⟦<View<'static> as Landed>⟧.landing w ≡ landing (plan_of self.now) view) × ViewFacts (plan_of self.now) view | None ↦ length (plan_of self.now).steps ≤ view ] }
     {

@@ -41,7 +41,8 @@ impl fmt::Display for Answer {
     }
 }
 
-/// Makes an answer that to a file. To be refused is an answer, which leaves the shadow.
+/// Makes an answer that to a file. To be refused is an answer, which leaves the shadow. Defined by `Answers` of
+/// specs/Answers.
 pub fn answer_to(bytes: &[u8], answer: &mut Answer)
     ensures { Answers bytes.now answer.old answer.new }
 {

@@ -118,7 +118,8 @@ fn make(shadow: &mut Shadow, plan: &Plan, values: &Numbers<'_>)
 }
 
 /// Makes a shadow that of the plan and the voxels that a file holds. Checks the plan as `read_plan` does, 10, and the section
-/// of the voxels as `voxel_values` does, all before it writes.
+/// of the voxels as `voxel_values` does, all before it writes; a refusal leaves the shadow. Defined by `shadow_check` and
+/// `ShadowOf` of specs/Shadows.
 #[tactic(auto, using(std::proofs::lemmas::Result::err_from_is_err_and), unfolding(crate::specs::Shadows::shadow_check))]
 pub fn shadow_of(bytes: &[u8], shadow: &mut Shadow) -> Result<(), Refusal>
     ensures answer { let b = bytes.now in

@@ -22,7 +22,7 @@ pub enum Refusal {
 }
 
 impl Refusal {
-    /// The number of the condition: a number, since that is what users look up.
+    /// The number of the condition: a number, since that is what users look up. Defined by `number` of specs/Refusals.
     pub fn number(&self) -> u8
         ensures { result ≡ number self.now }
     {
@@ -32,7 +32,7 @@ impl Refusal {
         }
     }
 
-    /// The byte at which what is refused begins, counted from 0.
+    /// The byte at which what is refused begins, counted from 0. Defined by `place` of specs/Refusals.
     pub fn place(&self) -> usize
         ensures { result ≡ place self.now }
     {

@@ -15,6 +15,9 @@ use values::value::Value;
 
 /// Backprojection: each voxel gains the factor times its weighted sum of the view's working cells, in which a cell counts
 /// by the multiple of its value by the weight. The working store is only lent.
+///
+/// The volume has `plan.voxels()` values, the working store `plan.places()`. Checks 22 and 23, by `sweep_check` of
+/// specs/Checks; a refusal changes nothing. Defined by `back` of calls/specs/Calls, with the weights of scan/specs/Views.
 pub fn back<V: Value>(
     plan: &Plan,
     view: usize,

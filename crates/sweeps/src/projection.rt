@@ -15,6 +15,9 @@ use values::value::Value;
 
 /// Forward projection: each working cell of the view gains the factor times its weighted sum of all voxels, in which a
 /// voxel counts by the multiple of its value by the weight. The volume is only lent.
+///
+/// The volume has `plan.voxels()` values, the working store `plan.places()`. Checks 22 and 23, by `sweep_check` of
+/// specs/Checks; a refusal changes nothing. Defined by `forward` of calls/specs/Calls, with the weights of scan/specs/Views.
 pub fn forward<V: Value>(
     plan: &Plan,
     view: usize,

@@ -24,7 +24,8 @@ use values::value::Value;
 /// checks, and answers that; a refused call alters no store.
 ///
 /// On stores of the plan's lengths a call is accepted, as a row's definition has it, exactly where its own check finds
-/// nothing.
+/// nothing. What a call is checked for is `call_check` of specs/Checks, what it makes of the stores `made_by` of
+/// calls/specs/Rows.
 #[tactic(auto, using(crate::proofs::RowFacts::accepted_where_none))]
 pub fn perform<V: Value>(
     plan: &Plan,
@@ -57,11 +58,12 @@ pub fn perform<V: Value>(
 
 /// Runs a row of calls, from first to last, and answers how many of them were refused: each goes as by `perform`, and one is
 /// counted where it is not accepted, which on stores of the plan's lengths is where its own check refuses it. A refused call
-/// alters nothing, and the row goes on. Stores of other lengths than the plan's are refused, and then nothing changes.
+/// alters nothing, and the row goes on. Stores of other lengths than the plan's are refused (23), and then nothing changes.
+/// Defined by `outcome` of calls/specs/Rows.
 ///
 /// The last three clauses are the theorem on rows. They speak of every sealed plan, every row and all stores of the plan's
 /// lengths, and not only of those given here: the mirrored row is the transpose, the outcome is linear in the start, and
-/// overlaps add up to shadows.
+/// overlaps add up to shadows. Stated by `Matched` and `Linear` of calls/specs/RowLaws and `Conserved` of specs/Shadows.
 pub fn run<V: Value>(
     plan: &Plan,
     row: &[Call<V>],

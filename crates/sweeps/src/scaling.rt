@@ -12,7 +12,8 @@ use scan::plan::Plan;
 use scan::refusal::Refusal;
 use values::value::Value;
 
-/// Multiplies each working cell of the view by the factor.
+/// Multiplies each working cell of the view by the factor. The store has `plan.places()` values. Checks 22 and 23, by
+/// `scale_check` of specs/Checks; a refusal changes nothing. Defined by `scale` of calls/specs/Calls.
 pub fn scale<V: Value>(
     plan: &Plan,
     view: usize,

@@ -13,7 +13,9 @@ use scan::plan::Plan;
 use scan::refusal::Refusal;
 use values::value::Value;
 
-/// Takes from the measured store: each working cell of the view gains the factor times its measured cell.
+/// Takes from the measured store: each working cell of the view gains the factor times its measured cell. Both stores have
+/// `plan.places()` values. Checks 22 and 23, by `transfer_check` of specs/Checks; a refusal changes nothing. Defined by
+/// `transfer` of calls/specs/Calls.
 pub fn take<V: Value>(
     plan: &Plan,
     view: usize,
@@ -38,7 +40,9 @@ pub fn take<V: Value>(
     Ok(())
 }
 
-/// Gives to the measured store: each measured cell of the view gains the factor times its working cell.
+/// Gives to the measured store: each measured cell of the view gains the factor times its working cell. Both stores have
+/// `plan.places()` values. Checks 22 and 23, by `transfer_check` of specs/Checks; a refusal changes nothing. Defined by
+/// `transfer` of calls/specs/Calls.
 pub fn give<V: Value>(
     plan: &Plan,
     view: usize,

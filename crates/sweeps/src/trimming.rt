@@ -17,7 +17,8 @@ use scan::refusal::Refusal;
 use scan::scan_axis::ScanAxis;
 use values::value::Value;
 
-/// Keeps the voxels in the box, and sets the others to zero.
+/// Keeps the voxels in the box, and sets the others to zero. The volume has `plan.voxels()` values. Checks 23 and 24, by
+/// `trim_check` of specs/Checks; a refusal changes nothing. Defined by `trim` of calls/specs/Calls.
 pub fn trim<V: Value>(plan: &Plan, within: VoxelBox, volume: &mut [V]) -> Result<(), Refusal>
     ensures answer { let s = system_of (plan_of plan.now) in
         result_err result ≡ trim_check s within (length volume.old) }

@@ -1,7 +1,8 @@
 ghost use Rattle.std.specs.Prelude.{◌≡◌};
 ghost use Rattle.values.specs.Laws.{Ops, Laws};
 
-/// A kind of value: it can be added, multiplied, and taken a number of times.
+/// A kind of value: it can be added, multiplied, and taken a number of times. Every operation answers at every value. The
+/// laws are `Laws` of specs/Laws, and the theory of sums, sweeps and rows uses no others.
 pub trait Value: Copy {
     /// The kind's zero, from which sums start.
     const ZERO: Self;
