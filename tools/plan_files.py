@@ -7,7 +7,7 @@ printed) and from docs/SPECIFICATION.md (axes, steps, landed edges, weights,
 kinds of value), and from nothing else. Part 1 says what `shadow` prints for
 any input: straight from the definitions, every voxel with every cell, in exact
 whole numbers. Part 2 makes several hundred inputs, some by hand and some by
-chance from a fixed seed.
+chance from a fixed seed, and writes them as text, each with its answer.
 
     python3 tools/plan_files.py
 
@@ -18,12 +18,14 @@ missing or is too many. It ends with status 1 if there is any, and else prints
 
     python3 tools/plan_files.py --write
 
-writes them, and removes the files data/*.plan that are no longer made.
+writes them, and removes the files of data/ that are not made.
 
-`data/` holds the inputs: `case-NAME.plan`, made by hand, and
-`random-NNN.plan`, made by chance. Its file `list` has their names in order,
-one a line. `stdout` has for each of them, in that order, a line with its name
-and then its answer: what the program of crates/plan_files must print.
+`data/` holds three texts: `by-hand.txt` and `by-chance.txt`, with the inputs
+and their answers, and `wrong.txt`, with a few whose answers there are wrong on
+purpose. The first lines of each text tell its form. The program of
+crates/plan_files answers every input by the library. `stdout` is what it must
+print: of each text how many answers are as told there, and before that, for
+each that is not, its name and the right answer.
 
 Before anything else the program checks itself against the figures in the two
 documents, and every case made by hand against what it was made to show. Where
@@ -985,7 +987,7 @@ def random_files():
     """The names and bytes of all inputs made by chance: whole, cut and damaged in turn."""
     rng = random.Random(SEED)
     for i in range(RANDOM_FILES):
-        yield f"random-{i:03}.plan", (whole, cut, damaged)[i % 3](rng)
+        yield f"random-{i:03}", (whole, cut, damaged)[i % 3](rng)
 
 
 # --- checks of this program ------------------------------------------------
@@ -1070,33 +1072,133 @@ def check_case(case, found):
     expect(case.name, found.split("\n", 1)[0], case.first_line)
 
 
-# --- the files -------------------------------------------------------------
+# --- the entries of the texts ----------------------------------------------
 
-def plan_files():
-    """All inputs with their answers, in order: name, bytes, answer."""
-    made = []
+# A name, an input, the answer that the text tells, and the right one.
+Entry = namedtuple("Entry", "name data told right")
+
+
+def right_entry(name, data):
+    """An entry that tells the right answer."""
+    right = answer(data)
+    return Entry(name, data, right, right)
+
+
+def wrong_entry(name, data, told):
+    """An entry that tells another answer than the right one."""
+    right = answer(data)
+    expect(f"whether {name} is wrong", told != right, True)
+    return Entry(name, data, told, right)
+
+
+def entries_by_hand():
+    """The inputs made by hand."""
     for group in GROUPS:
         for case in group():
-            found = answer(case.data)
-            check_case(case, found)
-            made.append((f"case-{case.name}.plan", case.data, found))
-    made.extend((name, data, answer(data)) for name, data in random_files())
-    expect("number of different names", len({name for name, _, _ in made}), len(made))
-    return made
+            entry = right_entry(case.name, case.data)
+            check_case(case, entry.right)
+            yield entry
 
+
+def entries_by_chance():
+    """The inputs made by chance."""
+    for name, data in random_files():
+        yield right_entry(name, data)
+
+
+def wrong_entries():
+    """Inputs with an answer that is nearly right, wrong in another way each."""
+    near = packed(changed(EXAMPLE, (DISTANCES, 0, 200)))
+    yield wrong_entry("another-refusal", near, "refused 6 at 4\n")
+    yield wrong_entry("another-place", near, "refused 7 at 8\n")
+    yield wrong_entry("another-value", EXAMPLE_FILE,
+                      EXAMPLE_ANSWER.replace("0 0 1 19025", "0 0 1 19026"))
+    unseen = packed(replaced(EXAMPLE, {STEPS: []}))
+    for name, last in (("another-last-line", "hit 1\n"), ("a-line-less", ""),
+                       ("a-line-more", "hit 0\nhit 0\n")):
+        yield wrong_entry(name, unseen, "views 0 rows 1 columns 2\n" + last)
+
+
+# --- the texts -------------------------------------------------------------
+
+# The name of a file, what its first line says of the entries, and the entries.
+Text = namedtuple("Text", "name what entries")
+
+HEAD = """\
+# Plan files {}. tools/plan_files.py makes this text.
+# An entry is a name, the bytes of a plan file in hex, and the lines of its answer, each after "= ".
+# Eight digits are the four bytes of a number, low byte first. Bytes that make no whole number are a
+# shorter group, the last. Each section begins a line, with its count; 16 numbers follow in a line.
+# An empty line ends the entry. docs/PLAN-FILES.md says what the sections are.
+"""
+LINE = 4 * 16    # the bytes of a line's numbers
+
+
+def made_texts():
+    """The three texts."""
+    texts = [Text("by-hand.txt", "made by hand, and what `shadow` prints for each",
+                  list(entries_by_hand())),
+             Text("by-chance.txt", "made by chance, and what `shadow` prints for each",
+                  list(entries_by_chance())),
+             Text("wrong.txt", "with answers that are all wrong, which the comparison has to tell",
+                  list(wrong_entries()))]
+    names = [entry.name for text in texts for entry in text.entries]
+    expect("number of different names", len(set(names)), len(names))
+    return texts
+
+
+def bytes_of_sections(data):
+    """The bytes of each section, as far as there are any, and the bytes after the last."""
+    at = 0
+    for _ in NAMES:
+        end = at + 4 + 4 * int.from_bytes(data[at:at + 4], "little")
+        yield data[at:end]
+        at = end
+    yield data[at:]
+
+
+def hex_lines(section):
+    """The lines of a section: its count and 16 numbers, and then 16 below these in each."""
+    yield section[:4 + LINE].hex(" ", -4)
+    for at in range(4 + LINE, len(section), LINE):
+        yield " " * len("00000000 ") + section[at:at + LINE].hex(" ", -4)
+
+
+def written_entry(entry):
+    """The lines of an entry."""
+    lines = [f"[{entry.name}]"]
+    for section in filter(None, bytes_of_sections(entry.data)):
+        lines.extend(hex_lines(section))
+    lines.extend(f"= {line}" for line in entry.told.splitlines())
+    return "".join(f"{line}\n" for line in lines)
+
+
+def written(text):
+    """A text, whose first lines and entries have an empty line between them."""
+    return "\n".join([HEAD.format(text.what), *map(written_entry, text.entries)])
+
+
+def printed(text):
+    """What the program of crates/plan_files has to print for a text."""
+    others = [f"[{entry.name}]\n{entry.right}" for entry in text.entries
+              if entry.told != entry.right]
+    number = len(text.entries)
+    return "".join(others) + f"{text.name}: {number - len(others)} of {number} answers as told\n"
+
+
+# --- the files -------------------------------------------------------------
 
 def wanted_files(data_dir, stdout_file):
     """The bytes of every file that is kept, by its path."""
-    made = plan_files()
-    files = {data_dir / name: data for name, data, _ in made}
-    files[data_dir / "list"] = "".join(f"{name}\n" for name, _, _ in made).encode()
-    files[stdout_file] = "".join(f"{name}\n{found}" for name, _, found in made).encode()
+    texts = made_texts()
+    files = {data_dir / text.name: written(text).encode() for text in texts}
+    files[stdout_file] = "".join(map(printed, texts)).encode()
     return files
 
 
 def too_many(data_dir, files):
-    """The plan files that lie in the directory and are not made."""
-    return [path for path in sorted(data_dir.glob("*.plan")) if path not in files]
+    """The files that lie in the directory and are not made."""
+    return [path for path in sorted(data_dir.glob("*")) if path not in files]
 
 
 def write(data_dir, files):
