@@ -7,10 +7,10 @@
 To a copy of the libraries a crate `stack` is added, a static library with an export for each call and each kind of value. An
 export makes what a caller holds (axes, a plan, stores), has the stack below it painted, by a function of a C program with which
 gcc links the library, and then makes the call. How far down the paint is gone is what the call needs. What the caller holds lies
-above, and so does the place into which the call writes its answer. Each export is run on every file of crates/plan_files/data,
-which lie on both sides of every limit, and the deepest run counts, refused or not; a store holds 4,096 values at most. `rt` lets
-the crate call C since RT_ALLOW_C says so, which is set for the copy alone. It takes two or three minutes where out/ has what
-`rt check` kept. Needs of 144 bytes and less are not told apart.
+above, and so does the place into which the call writes its answer. Each export is run on every plan file of the texts in
+crates/plan_files/data, which lie on both sides of every limit, and the deepest run counts, refused or not; a store holds 4,096
+values at most. `rt` lets the crate call C since RT_ALLOW_C says so, which is set for the copy alone. It takes two or three
+minutes where out/ has what `rt check` kept. Needs of 144 bytes and less are not told apart.
 """
 import argparse
 import itertools
@@ -24,7 +24,7 @@ import tempfile
 from typing import NamedTuple
 
 TOP = pathlib.Path(__file__).resolve().parent.parent
-FILES = sorted((TOP / "crates" / "plan_files" / "data").glob("*.plan"))
+TEXTS = [TOP / "crates" / "plan_files" / "data" / name for name in ("by-hand.txt", "by-chance.txt")]
 MOST = 200_000
 UNSEEN = 16 + 128  # what lies between the frame of an export and the paint: see `stack_paint`
 USED = "values geometry scan calls planfile sweeps shadows".split()
@@ -241,6 +241,18 @@ def called(command, folder, **more):
     return done.stdout
 
 
+def plan_files(folder):
+    """Writes each plan file of the texts to a file of its own; answers their paths."""
+    folder.mkdir()
+    paths = []
+    for text in TEXTS:
+        for number, entry in enumerate(text.read_text(encoding="utf-8").split("\n\n")[1:]):
+            digits = "".join(line for line in entry.splitlines()[1:] if not line.startswith("= "))
+            paths.append(folder / f"{text.stem}-{number}")
+            paths[-1].write_bytes(bytes.fromhex(digits))
+    return paths
+
+
 def measured(folder):
     """The numbers that the program prints, line by line."""
     folder.mkdir(parents=True)
@@ -261,7 +273,7 @@ def measured(folder):
     called(["rt", "lib"], stack, env={**os.environ, "RT_ALLOW_C": "stack"})
     # By `now` the functions of C are found before the program starts; else the first call of each would pay for it.
     called(["gcc", "-O1", "-o", "stack", "c/stack.c", "out/libstack.a", "-lpthread", "-Wl,-z,now"], stack)
-    return [list(map(int, line.split())) for line in called([stack / "stack", *FILES], folder).splitlines()]
+    return [list(map(int, line.split())) for line in called([stack / "stack", *plan_files(folder / "files")], folder).splitlines()]
 
 
 def main():
