@@ -1107,7 +1107,7 @@ def entries_by_chance():
 
 
 def wrong_entries():
-    """Inputs with an answer that is nearly right, wrong in another way each."""
+    """Inputs with an answer that is nearly right, each wrong in its own way."""
     near = packed(changed(EXAMPLE, (DISTANCES, 0, 200)))
     yield wrong_entry("another-refusal", near, "refused 6 at 4\n")
     yield wrong_entry("another-place", near, "refused 7 at 8\n")
@@ -1126,10 +1126,11 @@ Text = namedtuple("Text", "name what entries")
 
 HEAD = """\
 # Plan files {}. tools/plan_files.py makes this text.
-# An entry is a name, the bytes of a plan file in hex, and the lines of its answer, each after "= ".
-# Eight digits are the four bytes of a number, low byte first. Bytes that make no whole number are a
-# shorter group, the last. Each section begins a line, with its count; 16 numbers follow in a line.
-# An empty line ends the entry. docs/PLAN-FILES.md says what the sections are.
+# An entry is a name in brackets, the bytes of a file in hex, and the lines of its answer, each after "= ".
+# Eight digits are the four bytes of a number, low byte first; bytes that make no whole number end as a
+# shorter group. A section begins a line, with its count and 16 numbers at most, and has 16 in each line
+# below; it is as long as its count says, right or wrong. Bytes after section 8 begin a line too. Between
+# two entries is an empty line. docs/PLAN-FILES.md says what the sections are.
 """
 LINE = 4 * 16    # the bytes of a line's numbers
 
@@ -1148,7 +1149,10 @@ def made_texts():
 
 
 def bytes_of_sections(data):
-    """The bytes of each section, as far as there are any, and the bytes after the last."""
+    """The bytes of each section, as far as there are any, and the bytes after the last.
+
+    A count that is too great takes in all that follows.
+    """
     at = 0
     for _ in NAMES:
         end = at + 4 + 4 * int.from_bytes(data[at:at + 4], "little")
@@ -1178,6 +1182,16 @@ def written(text):
     return "\n".join([HEAD.format(text.what), *map(written_entry, text.entries)])
 
 
+def check_written(text):
+    """What is written of a text tells its entries: names, bytes and answers."""
+    for entry, lines in zip(text.entries, written(text).split("\n\n")[1:], strict=True):
+        name, *rest = lines.splitlines()
+        data = bytes.fromhex("".join(line for line in rest if not line.startswith("= ")))
+        told = "".join(f"{line[2:]}\n" for line in rest if line.startswith("= "))
+        expect(f"text of {entry.name}", (name, data, told),
+               (f"[{entry.name}]", entry.data, entry.told))
+
+
 def printed(text):
     """What the program of crates/plan_files has to print for a text."""
     others = [f"[{entry.name}]\n{entry.right}" for entry in text.entries
@@ -1191,6 +1205,8 @@ def printed(text):
 def wanted_files(data_dir, stdout_file):
     """The bytes of every file that is kept, by its path."""
     texts = made_texts()
+    for text in texts:
+        check_written(text)
     files = {data_dir / text.name: written(text).encode() for text in texts}
     files[stdout_file] = "".join(map(printed, texts)).encode()
     return files

@@ -31,7 +31,8 @@ fn answer_all(heap: Global, entries: Vec<Entry<'_>>) -> Result<Vec<Answered<'_>>
     Ok(all)
 }
 
-// Prints each entry of a text to which another answer is given than is told, and how many are as told.
+// Prints, of a text, the name of each entry whose answer is not the one told, with the answer given, and then how many are as
+// told.
 pub(crate) fn compare(rt: &(impl Files + Print + AllocGlobal), name: &str) -> Result<()> {
     let text = fs::read_to_string(rt, name)?;
     let all = answer_all(rt.alloc(), entries_of(rt.alloc(), &text)?)?;

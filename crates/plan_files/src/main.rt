@@ -9,7 +9,7 @@ use anyhow::{Context, Result};
 use comparison::compare;
 
 fn main(rt: HostRuntime) -> Result<()> {
-    // In the last no answer told is right: a comparison that always agrees would show there.
+    // In the last text every answer is wrong: a comparison that always agrees would show there.
     for text in ["by-hand.txt", "by-chance.txt", "wrong.txt"] {
         compare(&rt, text).context(text)?;
     }
