@@ -2,11 +2,13 @@
 """Expected figures of the six calls and of rows of them, for comparison with the library.
 
 Written from the definitions in docs/SPECIFICATION.md; it shares no code with the library. It takes every voxel with
-every cell, in exact whole numbers. Python's // rounds down whatever the signs. Run it as `python3 tools/oracle.py`; its
-output is kept in tools/oracle.txt. A failed self-check ends it with an error.
+every cell, in exact whole numbers; each landed edge is rounded from its exact fraction. Run it as
+`python3 tools/oracle.py`; its output is kept in tools/oracle.txt. A failed self-check ends it with an error.
 """
 
 import random
+from fractions import Fraction
+from functools import cache
 
 R = 16384
 SINES = [0, 1606, 3196, 4756, 6270, 7723, 9102, 10394, 11585, 12665, 13623, 14449, 15137, 15679, 16069, 16305, 16384]
@@ -41,6 +43,13 @@ class Reach:
 
 
 # Geometry.
+@cache
+def nearest(n, d):  # the whole number nearest to n / d, of two that are equally near the one farther from zero
+    exact = Fraction(n, d)
+    below = exact.numerator // exact.denominator
+    return min((below, below + 1), key=lambda whole: (abs(exact - whole), -abs(whole)))
+
+
 def heading(q):
     h, r = divmod(q, 16)
     up, down = SINES[r], SINES[16 - r]
@@ -66,19 +75,19 @@ class View:
     def U(self, j, i):
         D, a, b, Q = self.plan.D, self.a, self.b, self.slab_sum(j)
         e = (self.plan.x if self.slabs_along_y else self.plan.y)[i]
-        return D * (2 * e * a + Q * b) // (2 * D * a - R * Q)
+        return nearest(D * (2 * e * a + Q * b), 2 * D * a - R * Q)
 
     def W(self, j, l):
         D, a, Q = self.plan.D, self.a, self.slab_sum(j)
-        return 2 * D * a * self.plan.z[l] // (2 * D * a - R * Q)
+        return nearest(2 * D * a * self.plan.z[l], 2 * D * a - R * Q)
 
     def S(self, k):
         edge = self.plan.column[k]
-        return self.plan.D * R * edge // (self.plan.F * self.a - edge * self.b)
+        return nearest(self.plan.D * R * edge, self.plan.F * self.a - edge * self.b)
 
     def T(self, k, m):
         K = self.plan.column[k] + self.plan.column[k + 1]
-        return 2 * self.plan.D * self.a * self.plan.row[m] // (2 * self.plan.F * self.a - K * self.b)
+        return nearest(2 * self.plan.D * self.a * self.plan.row[m], 2 * self.plan.F * self.a - K * self.b)
 
     def weight(self, i, j, l, m, k):
         slab, cross = (j, i) if self.slabs_along_y else (i, j)
@@ -238,6 +247,19 @@ def check(holds, what):
         raise SystemExit("self-check failed: " + what)
 
 
+def mirrored_edges(edges, landed):
+    return all(landed(edges.index(-e)) == -landed(i) for i, e in enumerate(edges) if -e in edges)
+
+
+def check_mirrors(plan, view, slabs):
+    check(all(mirrored_edges(plan.z, lambda l: view.W(j, l)) for j in range(slabs)), "W mirrors z")
+    check(all(mirrored_edges(plan.row, lambda m: view.T(k, m)) for k in range(plan.columns)), "T mirrors the rows")
+    if view.b == 0:
+        crosses = plan.x if view.slabs_along_y else plan.y
+        check(all(mirrored_edges(crosses, lambda i: view.U(j, i)) for j in range(slabs)), "U mirrors the cross axis")
+        check(mirrored_edges(plan.column, view.S), "S mirrors the columns")
+
+
 def check_plan(name, plan):
     check(plan.refusal() is None, name + " is admitted")
     for q in range(64):
@@ -263,6 +285,7 @@ def check_plan(name, plan):
                 for l in range(plan.nz):
                     parts = [overlap(W[l], W[l + 1], T[m], T[m + 1]) for m in range(plan.rows)]
                     check(sum(parts) == overlap(W[l], W[l + 1], T[0], T[-1]), "overlaps with rows add up")
+        check_mirrors(plan, view, slabs)
         for kind in (Count, Pair, Reach):
             n, places = len(plan.voxels()), len(plan.views) * plan.rows * plan.columns
             volume = [kind.of(5 * p * p - 7) for p in range(n)]
@@ -371,6 +394,19 @@ def two_more():
     print("case reaches: uneven plan, view 1 at step 20, every other voxel yes")
     numbers("tally of forward onto no", [sum(working)])
     numbers("tally of back of that onto the volume", [sum(back(Reach, plan, 1, True, volume, working))])
+
+
+def halves():
+    plan = Plan(D=1500, F=3000, x=[-6, -3, -1, 1, 3, 6], y=[-600, -400, 400, 600], z=[-3, -1, 1, 3],
+                column=[-5, -3, -1, 1, 3, 5], row=[-3, -1, 1, 3], steps=[0, 32])
+    check_plan("halves", plan)
+    print("case halves: D 1500, F 3000, fractions that end in a half")
+    for step, view in zip(plan.steps, plan.views):
+        for slab in range(3):
+            numbers("step %d slab %d U" % (step, slab), [view.U(slab, i) for i in range(6)])
+            numbers("step %d slab %d W" % (step, slab), [view.W(slab, l) for l in range(4)])
+        numbers("step %d S" % step, [view.S(k) for k in range(6)])
+        numbers("step %d column 0 T" % step, [view.T(0, m) for m in range(4)])
 
 
 def wide():
@@ -542,6 +578,7 @@ first_cells()
 x_slabs()
 uneven()
 two_more()
+halves()
 wide()
 calls()
 refused_calls()

@@ -184,6 +184,12 @@ def overlap(one, other):
     return max(0, min(max(one), max(other)) - max(min(one), min(other)))
 
 
+def nearest(n, d):
+    """The whole number nearest to n/d, and of two equally near ones that farther from zero."""
+    size = (2 * abs(n) + abs(d)) // (2 * abs(d))
+    return size if n * d >= 0 else -size
+
+
 class View:
     """One view: its stretches between landed edges, and the weights."""
 
@@ -196,13 +202,12 @@ class View:
             a, b, sign, slabs, cross = s, -c, -1, plan.x, plan.y
         d, f = plan.source, plan.panel
         sums = [sign * (p + q) for p, q in stretches(slabs)]
-        # // is the whole number not above the quotient, whatever the signs.
-        self.u = [stretches([d * (2 * e * a + q * b) // (2 * d * a - R * q) for e in cross])
+        self.u = [stretches([nearest(d * (2 * e * a + q * b), 2 * d * a - R * q) for e in cross])
                   for q in sums]
-        self.w = [stretches([2 * d * a * z // (2 * d * a - R * q) for z in plan.z])
+        self.w = [stretches([nearest(2 * d * a * z, 2 * d * a - R * q) for z in plan.z])
                   for q in sums]
-        self.s = stretches([d * R * k // (f * a - k * b) for k in plan.columns])
-        self.t = [stretches([2 * d * a * g // (2 * f * a - (k + next_k) * b) for g in plan.rows])
+        self.s = stretches([nearest(d * R * k, f * a - k * b) for k in plan.columns])
+        self.t = [stretches([nearest(2 * d * a * g, 2 * f * a - (k + next_k) * b) for g in plan.rows])
                   for k, next_k in stretches(plan.columns)]
 
     def weight(self, voxel, cell):
@@ -816,6 +821,12 @@ def axis_cases():
            Z: [-MOST_EDGE, 0, MOST_EDGE], COLUMNS: ends, ROWS: [-MOST_EDGE, 2, MOST_EDGE],
            STEPS: [0, 8, 24, 40, 47, 56, 63]}
     yield accepted("edges-widest-and-source-nearest", filled(BASE, far))
+    # Edges whose fractions end in a half, on both sides of zero and before and behind the axis.
+    yield accepted("edges-that-land-on-halves",
+                   filled(BASE, {DISTANCES: [1500, 3000], X: [-6, -3, -1, 1, 3, 6],
+                                 Y: [-600, -400, 400, 600], Z: [-3, -1, 1, 3],
+                                 COLUMNS: [-5, -3, -1, 1, 3, 5], ROWS: [-3, -1, 1, 3],
+                                 STEPS: [0, 16, 32, 48]}, lambda place: place * place + 1))
     yield accepted("edges-widest-and-source-farthest",
                    filled(BASE, {**far, DISTANCES: [MOST_SOURCE, MOST_PANEL]}))
     yield accepted("edges-widest-and-values-that-wrap",
@@ -1006,9 +1017,9 @@ EXAMPLE_FILE = bytes.fromhex("""
 EXAMPLE_ANSWER = """\
 views 2 rows 1 columns 2
 0 0 0 19120
-0 0 1 19025
+0 0 1 19120
 1 0 0 19120
-1 0 1 19025
+1 0 1 19120
 hit 4
 """
 
@@ -1040,15 +1051,15 @@ def check_figures():
     plan, _ = read_file(EXAMPLE_FILE)
     ahead, tie, behind = View(plan, 0), View(plan, 8), View(plan, 32)
     expect("U and W of slab 0 to 100", (ahead.u[1], ahead.w[1]),
-           ([(-106, 0), (0, 105)], [(-53, 52)]))
+           ([(-105, 0), (0, 105)], [(-53, 53)]))
     expect("U and W of slab -100 to 0", (ahead.u[0], ahead.w[0]),
-           ([(-96, 0), (0, 95)], [(-48, 47)]))
+           ([(-95, 0), (0, 95)], [(-48, 48)]))
     expect("step 0, back from ones",
            [sum(ahead.weight(voxel, cell) for cell in cells_in_order(plan))
-            for voxel in voxels_in_order(plan)], [9120, 9025, 10000, 10000])
+            for voxel in voxels_in_order(plan)], [9120, 9120, 10000, 10000])
     expect("step 8, slab 0 to 100",
            [tie.weight((i, 1, 0), (0, k)) for i in range(2) for k in range(2)],
-           [5130, 5565, 0, 10920])
+           [5184, 5724, 0, 10918])
     expect("S of step 32", behind.s, [(100, 0), (0, -100)])
     expect("step 32, voxel (0, 0) on column 1", behind.weight((0, 0, 0), (0, 1)), 10000)
 
@@ -1112,7 +1123,7 @@ def wrong_entries():
     yield wrong_entry("another-refusal", near, "refused 6 at 4\n")
     yield wrong_entry("another-place", near, "refused 7 at 8\n")
     yield wrong_entry("another-value", EXAMPLE_FILE,
-                      EXAMPLE_ANSWER.replace("0 0 1 19025", "0 0 1 19026"))
+                      EXAMPLE_ANSWER.replace("0 0 1 19120", "0 0 1 19121"))
     unseen = packed(replaced(EXAMPLE, {STEPS: []}))
     for name, last in (("another-last-line", "hit 1\n"), ("a-line-less", ""),
                        ("a-line-more", "hit 0\nhit 0\n")):

@@ -25,7 +25,13 @@ typedef struct {
     i64 x[MOST_EDGES], z[MOST_EDGES], k[MOST_EDGES], g[MOST_EDGES]; /* y has the edges of x */
 } plan;
 
-static i64 floor_div(i64 n, i64 d) { i64 q = n / d, r = n % d; return q - ((r != 0) & ((r < 0) != (d < 0))); }
+/* The whole number nearest to n / d, halves away from zero: one step on from n / d, which drops its fraction, where what is
+   left over is half of d or more. What is left over is less than d, so twice of it fits. */
+static i64 nearest(i64 n, i64 d)
+{
+    i64 q = n / d, r = n % d;
+    return 2 * llabs(r) < llabs(d) ? q : (n < 0) == (d < 0) ? q + 1 : q - 1;
+}
 static i64 least(i64 a, i64 b) { return a < b ? a : b; }
 static i64 most(i64 a, i64 b) { return a > b ? a : b; }
 static i64 overlap(i64 a0, i64 a1, i64 b0, i64 b1) { i64 o = least(a1, b1) - most(a0, b0); return o > 0 ? o : 0; }
@@ -53,16 +59,16 @@ static void sweep(const plan *p, int step, u64 *voxels, u64 *cells, int forward)
     static i64 S[MOST_EDGES], U[MOST_EDGES], W[MOST_EDGES];
     static i64 (*T)[MOST_EDGES];
     if (!T) T = malloc(sizeof(i64) * MOST_EDGES * MOST_EDGES);
-    for (int k = 0; k <= p->columns; k++) S[k] = floor_div(p->D * 16384 * p->k[k], p->F * a - p->k[k] * b);
+    for (int k = 0; k <= p->columns; k++) S[k] = nearest(p->D * 16384 * p->k[k], p->F * a - p->k[k] * b);
     for (int k = 0; k < p->columns; k++) {
         i64 K = p->k[k] + p->k[k + 1];
-        for (int m = 0; m <= p->rows; m++) T[k][m] = floor_div(2 * p->D * a * p->g[m], 2 * p->F * a - K * b);
+        for (int m = 0; m <= p->rows; m++) T[k][m] = nearest(2 * p->D * a * p->g[m], 2 * p->F * a - K * b);
     }
     size_t stride = along_y ? 1 : p->nx, slab_stride = along_y ? p->nx : 1, rise = (size_t)p->nx * p->ny;
     for (int j = 0; j < slabs; j++) {
         i64 Q = (along_y ? 1 : -1) * (p->x[j] + p->x[j + 1]), depth = 2 * p->D * a - 16384 * Q;
-        for (int i = 0; i <= crosses; i++) U[i] = floor_div(p->D * (2 * p->x[i] * a + Q * b), depth);
-        for (int l = 0; l <= p->nz; l++) W[l] = floor_div(2 * p->D * a * p->z[l], depth);
+        for (int i = 0; i <= crosses; i++) U[i] = nearest(p->D * (2 * p->x[i] * a + Q * b), depth);
+        for (int l = 0; l <= p->nz; l++) W[l] = nearest(2 * p->D * a * p->z[l], depth);
         int i0 = 0;
         for (int kk = 0; kk < p->columns; kk++) {
             int k = a > 0 ? kk : p->columns - 1 - kk;

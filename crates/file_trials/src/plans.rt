@@ -41,9 +41,9 @@ fn its_views_land_as_worked_out(rt: HostRuntime) -> Result<(), Fail> {
             view.cross_edge(1, 1),
             view.cross_edge(1, 2)
         ),
-        (-106, 0, 105)
+        (-105, 0, 105)
     );
-    assert_eq!(rt; (view.height_edge(1, 0), view.height_edge(1, 1)), (-53, 52));
+    assert_eq!(rt; (view.height_edge(1, 0), view.height_edge(1, 1)), (-53, 53));
     Ok(())
 }
 

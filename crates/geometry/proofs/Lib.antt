@@ -2,6 +2,8 @@ pub mod Conditions
 pub mod Products
 pub mod Size
 pub mod FloorLaws
+pub mod NearestLaws
+pub mod MirrorImages
 pub mod Table
 pub mod Words
 pub mod Dividends

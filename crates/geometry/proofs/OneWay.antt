@@ -3,9 +3,9 @@ use Rattle.std.proofs.Common.{◌≡◌, ℤ, pos, ◌+ℤ◌, ◌-ℤ◌, ◌*�
 use lib.IntN.{*ℤ_comm}
 use borrow.Author.Differences.{ints}
 use Rattle.std.proofs.lemmas.Int.{by_lt_z}
-use Rattle.geometry.specs.Floor.{floor_div}
+use Rattle.geometry.specs.Nearest.{nearest}
 use Rattle.geometry.specs.Landed.{panel_depth, cross_edge, height_edge, column_edge, row_edge}
-use Rattle.geometry.proofs.FloorLaws.{floor_rises, floor_falls, floor_cross, floor_cross_below}
+use Rattle.geometry.proofs.NearestLaws.{nearest_rises, nearest_falls, nearest_cross, nearest_cross_below}
 use Rattle.geometry.proofs.Products.{*ℤ-assoc, *ℤ--ℤ, times_up, times_down, times_left}
 use Rattle.geometry.proofs.Size.{times_side}
 use Rattle.geometry.proofs.Divisors.{depth_beside, panel_depth_beside}
@@ -17,11 +17,11 @@ abbrev Along : ℤ → ℤ → ℤ → Type 0
 Along a m n = (pos 0 <ℤ a → m ≤ℤ n) × (a <ℤ pos 0 → n ≤ℤ m)
 
 -- over a divisor on a's side, their quotients rise
-quotients_rise : (m n d a b : ℤ) → Beside a d → Steep a b → Along a m n → floor_div m d ≤ℤ floor_div n d
+quotients_rise : (m n d a b : ℤ) → Beside a d → Steep a b → Along a m n → nearest m d ≤ℤ nearest n d
 quotients_rise m n d a b s t h =
     by_lt_z (pos 0) a
-    (λ (u : pos 0 <ℤ a). floor_rises m n d (s.above u) (h.0 u))
-    (λ (v : a ≤ℤ pos 0). let u : a <ℤ pos 0 = omega (arith, ints, t.least) in floor_falls n m d (s.below u) (h.1 u))
+    (λ (u : pos 0 <ℤ a). nearest_rises m n d (s.above u) (h.0 u))
+    (λ (v : a ≤ℤ pos 0). let u : a <ℤ pos 0 = omega (arith, ints, t.least) in nearest_falls n m d (s.below u) (h.1 u))
 
 pub cross_rises : (D a b Q : ℤ) → Placed D Q → Steep a b → (e f : ℤ) → e ≤ℤ f → cross_edge D a b Q e ≤ℤ cross_edge D a b Q f
 unfolding cross_edge
@@ -72,11 +72,11 @@ module _ (D F a b k l : ℤ) (some : pos 0 <ℤ D) (p : Reached F k) (q : Reache
   pub column_rises : pos 0 <ℤ a → column_edge D F a b k ≤ℤ column_edge D F a b l
   unfolding column_edge
   column_rises u =
-      floor_cross _ _ _ _ ((panel_depth_beside F a b k p s).above u) ((panel_depth_beside F a b l q s).above u)
+      nearest_cross _ _ _ _ ((panel_depth_beside F a b k p s).above u) ((panel_depth_beside F a b l q s).above u)
       (crossed k l (times_up (F *ℤ a) k l ((times_side F a p.some).0 u) h))
 
   pub column_falls : a <ℤ pos 0 → column_edge D F a b l ≤ℤ column_edge D F a b k
   unfolding column_edge
   column_falls u =
-      floor_cross_below _ _ _ _ ((panel_depth_beside F a b l q s).below u) ((panel_depth_beside F a b k p s).below u)
+      nearest_cross_below _ _ _ _ ((panel_depth_beside F a b l q s).below u) ((panel_depth_beside F a b k p s).below u)
       (crossed l k (times_down (F *ℤ a) k l ((times_side F a p.some).1 u) h))

@@ -1,5 +1,5 @@
 -- Division that rounds down.
-use Rattle.std.specs.Prelude.{ℕ, zero, suc, ◌/◌, ◌<◌, ℤ, pos, negsuc, ◌*ℤ◌, neg_ℤ, ◌≤ℤ◌, unsigned_abs}
+use Rattle.std.specs.Prelude.{ℕ, zero, suc, ◌/◌, ℤ, pos, negsuc, ◌*ℤ◌, neg_ℤ, ◌≤ℤ◌}
 
 -- n / m for a divisor m above 0, rounded down.
 abbrev pub floor_by : ℤ → ℕ → ℤ
@@ -21,7 +21,3 @@ AtMost k n (negsuc d) = n ≤ℤ (k *ℤ negsuc d)
 pub record Floor (n d r : ℤ) : Type 0 where
   pub low : AtMost r n d
   pub greatest : (k : ℤ) → AtMost k n d → k ≤ℤ r
-
--- Rounding down gives the greatest whole number not above the fraction, for all n and all d but 0, whatever the signs.
-abbrev pub Floors : Type 0
-Floors = (n d : ℤ) → 0 < unsigned_abs d → Floor n d (floor_div n d)

@@ -4,5 +4,6 @@ pub mod Directions
 pub mod Steep
 pub mod Admitted
 pub mod Floor
+pub mod Nearest
 pub mod Landed
 pub mod Overlap

@@ -1,5 +1,5 @@
 // Where the edges of voxels and of panel cells land on the common plane, which holds the rotation axis and lies
-// across the slab axis. Each landed edge is one division that rounds down.
+// across the slab axis. Each landed edge is one division to the nearest whole number.
 // No admitted plan makes a divisor 0; an edge whose divisor is 0 lands at 0.
 ghost use Rattle.std.specs.Prelude.{◌≡◌, ◌^◌, ◌≤◌, pos, ◌+ℤ◌, ◌*ℤ◌, unsigned_abs};
 ghost use Rattle.geometry.specs.Landed.{slab_sum, depth, panel_depth, cross_edge, height_edge, column_edge, row_edge};
@@ -8,7 +8,7 @@ use crate::cell::Cell;
 use crate::direction::{Direction, R, SlabAxis};
 use crate::distances::Distances;
 use crate::edge::Edge;
-use crate::floor::floor_div;
+use crate::nearest::nearest;
 
 /// How the source and the panel stand in one view: how far away, and which way.
 #[derive(Clone, Copy, PartialEq, Eq, Debug)]
@@ -78,7 +78,7 @@ impl Pose {
         ensures { result ≡ cross_edge self.distances.source self.direction.a self.direction.b (slab_sum self.direction.slabs slab.low.at slab.high.at) e.at }
     {
         let middle = self.slab_sum(slab);
-        floor_div(self.cross_dividend(middle, e), self.depth(middle))
+        nearest(self.cross_dividend(middle, e), self.depth(middle))
     }
 
     /// W: where the edge z of a voxel, along the rotation axis, lands from a slab, in whole units. Defined by `height_edge`
@@ -86,7 +86,7 @@ impl Pose {
     pub fn height_edge(self, slab: Cell, z: Edge) -> i64
         ensures { result ≡ height_edge self.distances.source self.direction.a (slab_sum self.direction.slabs slab.low.at slab.high.at) z.at }
     {
-        floor_div(self.height_dividend(z), self.depth(self.slab_sum(slab)))
+        nearest(self.height_dividend(z), self.depth(self.slab_sum(slab)))
     }
 
     /// S: where the edge k of a panel column lands, in whole units. Defined by `column_edge` of specs/Landed.
@@ -94,7 +94,7 @@ impl Pose {
         ensures { result ≡ column_edge self.distances.source self.distances.panel self.direction.a self.direction.b k.at }
     {
         let panel_depth = self.direction.panel_depth(self.distances.panel, k.at);
-        floor_div(self.distances.column_dividend(k), panel_depth)
+        nearest(self.distances.column_dividend(k), panel_depth)
     }
 
     /// T: where the edge g of a panel row lands, from the middle of a column, in whole units. Defined by `row_edge` of
@@ -106,7 +106,7 @@ impl Pose {
         let panel_depth = self
             .direction
             .panel_depth(2 * self.distances.panel, middle.twice);
-        floor_div(self.height_dividend(g), panel_depth)
+        nearest(self.height_dividend(g), panel_depth)
     }
 }
 
@@ -167,7 +167,7 @@ mod tests {
             low: Edge { at: 0 },
             high: Edge { at: 100 },
         };
-        assert_eq!(rt; landed(slab), ([-106, 0, 105], [-53, 52]));
+        assert_eq!(rt; landed(slab), ([-105, 0, 105], [-53, 53]));
     }
 
     #[test]
@@ -176,7 +176,7 @@ mod tests {
             low: Edge { at: -100 },
             high: Edge { at: 0 },
         };
-        assert_eq!(rt; landed(slab), ([-96, 0, 95], [-48, 47]));
+        assert_eq!(rt; landed(slab), ([-95, 0, 95], [-48, 48]));
     }
 
     #[test]

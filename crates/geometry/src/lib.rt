@@ -8,6 +8,7 @@ pub mod distances;
 pub mod edge;
 mod floor;
 pub mod landed;
+mod nearest;
 pub mod no_step;
 pub mod step;
 pub mod stretch;

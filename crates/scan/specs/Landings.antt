@@ -18,11 +18,12 @@ use Rattle.scan.specs.Landing.{Landing, Sound, CellLimits, weight, cross_overlap
 use Rattle.scan.specs.Scans.{Scan}
 use Rattle.scan.specs.Limits.{Fitted}
 use Rattle.scan.specs.Views.{slab_edges, cross_edges, slab_sum_of, column_sum_of, landing_of, landing, step_of}
-use Rattle.scan.specs.ViewFacts.{SafeDivisions, ViewFacts}
+use Rattle.scan.specs.ViewFacts.{SafeDivisions, MirrorImages, ViewFacts}
 use Rattle.scan.specs.Numbered.{edge_within, edge_rises}
 use Rattle.geometry.proofs.Conditions.{Placed, Reached}
 use Rattle.geometry.specs.Steep.{Steep}
-use Rattle.geometry.proofs.FloorLaws.{floor_is}
+use Rattle.geometry.proofs.NearestLaws.{nearest_is, nearest_odd}
+use Rattle.geometry.proofs.MirrorImages.{heights_mirrored, rows_mirrored, crosses_mirrored, columns_mirrored}
 
 -- no edge lies farther out than the greatest
 fold_most : (m : ℕ) (es : List ℤ) → m ≤ fold (λ most e. max most (unsigned_abs e)) m es
@@ -142,6 +143,17 @@ module _ (scan : Scan) (fitted : Fitted scan) (along : SlabAxis) (a b : ℤ) (st
         W_within = λ j l. omega (arith, height_within D a b (Q j) (placed j) steep (edge_of scan.z l) (edge_within scan.z fitted.z l));
       }
 
+  pub mirrored : MirrorImages scan along b (landing_of scan along a b)
+  mirrored =
+      let D = scan.source in
+      let F = scan.panel in
+      record {
+        heights = λ j l m e. heights_mirrored D a (slab_sum_of scan along j) (edge_of scan.z l) (edge_of scan.z m) e;
+        rows = λ k l m e. rows_mirrored D F a b (column_sum_of scan k) (edge_of scan.row l) (edge_of scan.row m) e;
+        crosses = λ h j i k e. crosses_mirrored D a b (slab_sum_of scan along j) (edge_of (cross_edges scan along) i) (edge_of (cross_edges scan along) k) h e;
+        columns = λ h k l e. columns_mirrored D F a b (edge_of scan.column k) (edge_of scan.column l) h e;
+      }
+
 -- the overlaps and the weights of a view that lands soundly
 module _ (L : Landing) (s : Sound L) where
   cross_light : (j i k : ℕ) → cross_overlap L j i k ≤ 67108863
@@ -167,7 +179,9 @@ lands scan fitted v =
     let s = sound scan fitted (slab_axis q) (main_of q) (side_of q) steep in
     record {
       sound = s;
-      floors = floor_is;
+      nearest = nearest_is;
+      odd = nearest_odd;
+      mirrored = mirrored scan fitted (slab_axis q) (main_of q) (side_of q) steep;
       safe = safe scan fitted (slab_axis q) (main_of q) (side_of q) steep;
       S_rises = S_rises scan fitted (slab_axis q) (main_of q) (side_of q) steep;
       S_falls = S_falls scan fitted (slab_axis q) (main_of q) (side_of q) steep;

@@ -1,11 +1,11 @@
 -- What is known of the views of every plan.
-use Rattle.std.specs.Prelude.{ℕ, ◌+◌, ◌^◌, ◌<◌, ◌≤◌, ℤ, pos, ◌+ℤ◌, ◌*ℤ◌, ◌≤ℤ◌, ◌<ℤ◌, unsigned_abs}
+use Rattle.std.specs.Prelude.{◌≡◌, ℕ, ◌+◌, ◌^◌, ◌<◌, ◌≤◌, List, ℤ, pos, ◌+ℤ◌, ◌*ℤ◌, neg_ℤ, ◌≤ℤ◌, ◌<ℤ◌, unsigned_abs}
 use Rattle.geometry.specs.declared.direction.SlabAxis.{SlabAxis}
-use Rattle.geometry.specs.Floor.{Floors}
+use Rattle.geometry.specs.Nearest.{RoundsToNearest, RoundsOddly}
 use Rattle.geometry.specs.Landed.{depth, panel_depth}
 use Rattle.geometry.specs.Directions.{slab_axis, main_of, side_of}
 use Rattle.scan.specs.Axes.{edge_of}
-use Rattle.scan.specs.Landing.{Sound}
+use Rattle.scan.specs.Landing.{Landing, Sound}
 use Rattle.scan.specs.Scans.{Scan}
 use Rattle.scan.specs.Views.{cross_edges, slab_sum_of, column_sum_of, step_of, landing, weight_of}
 
@@ -19,10 +19,23 @@ pub record SafeDivisions (scan : Scan) (along : SlabAxis) (a b : ℤ) : Type 0 w
   pub row_divisor : (k : ℕ) → 0 < unsigned_abs (panel_depth (pos 2 *ℤ scan.panel) a b (column_sum_of scan k))
   pub row_dividend : (m : ℕ) → unsigned_abs (pos 2 *ℤ scan.source *ℤ a *ℤ edge_of scan.row m) ≤ 2 ^ 62
 
--- What is known of view v: it is sound; rounding down gives the greatest whole number not above a fraction, whatever fraction; its divisions are safe; S rises where a is positive and falls where a is negative; and every weight is below 2^52.
+-- Edges of an axis that are each other's negatives land at each other's negatives.
+abbrev pub Mirrored : List ℤ → (ℕ → ℤ) → Type 0
+Mirrored es landed = (i k : ℕ) → edge_of es k ≡ neg_ℤ (edge_of es i) → landed k ≡ neg_ℤ (landed i)
+
+-- Mirror-image edges land at mirror-image places: the heights z and -z of a slab and the row edges g and -g of a column always, and where b is 0 the cross edges e and -e of a slab and the column edges k and -k.
+pub record MirrorImages (scan : Scan) (along : SlabAxis) (b : ℤ) (L : Landing) : Type 0 where
+  pub heights : (j : ℕ) → Mirrored scan.z (L.W j)
+  pub rows : (k : ℕ) → Mirrored scan.row (L.T k)
+  pub crosses : b ≡ pos 0 → (j : ℕ) → Mirrored (cross_edges scan along) (L.U j)
+  pub columns : b ≡ pos 0 → Mirrored scan.column L.S
+
+-- What is known of view v: it is sound; rounding gives the whole number nearest to a fraction, whatever fraction, and is odd, so that mirror-image edges land at mirror-image places; its divisions are safe; S rises where a is positive and falls where a is negative; and every weight is below 2^52.
 pub record ViewFacts (scan : Scan) (v : ℕ) : Type 0 where
   pub sound : Sound (landing scan v)
-  pub floors : Floors
+  pub nearest : RoundsToNearest
+  pub odd : RoundsOddly
+  pub mirrored : MirrorImages scan (slab_axis (step_of scan v)) (side_of (step_of scan v)) (landing scan v)
   pub safe : SafeDivisions scan (slab_axis (step_of scan v)) (main_of (step_of scan v)) (side_of (step_of scan v))
   pub S_rises : pos 0 <ℤ main_of (step_of scan v) → (k : ℕ) → (landing scan v).S k ≤ℤ (landing scan v).S (k + 1)
   pub S_falls : main_of (step_of scan v) <ℤ pos 0 → (k : ℕ) → (landing scan v).S (k + 1) ≤ℤ (landing scan v).S k

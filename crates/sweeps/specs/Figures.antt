@@ -85,21 +85,21 @@ worked_cells =
 -- What the definitions yield for the worked plan.
 pub record Figures : Type 0 where
   -- step 0, the slab from 0 to 100: U, and W
-  pub near_U : map ((from 0).U 1) (0 ∷ 1 ∷ 2 ∷ []) ≡ minus 106 ∷ pos 0 ∷ pos 105 ∷ []
-  pub near_W : map ((from 0).W 1) (0 ∷ 1 ∷ []) ≡ minus 53 ∷ pos 52 ∷ []
+  pub near_U : map ((from 0).U 1) (0 ∷ 1 ∷ 2 ∷ []) ≡ minus 105 ∷ pos 0 ∷ pos 105 ∷ []
+  pub near_W : map ((from 0).W 1) (0 ∷ 1 ∷ []) ≡ minus 53 ∷ pos 53 ∷ []
   -- step 0, the slab from -100 to 0: U, and W
-  pub far_U : map ((from 0).U 0) (0 ∷ 1 ∷ 2 ∷ []) ≡ minus 96 ∷ pos 0 ∷ pos 95 ∷ []
-  pub far_W : map ((from 0).W 0) (0 ∷ 1 ∷ []) ≡ minus 48 ∷ pos 47 ∷ []
+  pub far_U : map ((from 0).U 0) (0 ∷ 1 ∷ 2 ∷ []) ≡ minus 95 ∷ pos 0 ∷ pos 95 ∷ []
+  pub far_W : map ((from 0).W 0) (0 ∷ 1 ∷ []) ≡ minus 48 ∷ pos 48 ∷ []
   -- step 0: what back from cells 1, 1 makes of zeros, the inner product of that with ones, and forward's with the cells
-  pub back_voxels : map shown (back count_ops (at_step 0) 0 (counted 1) (counts (1 ∷ 1 ∷ [])) zeros) ≡ pos 9120 ∷ pos 9025 ∷ pos 10000 ∷ pos 10000 ∷ []
-  pub back_inner : shown (dot count_ops 4 (back count_ops (at_step 0) 0 (counted 1) (counts (1 ∷ 1 ∷ [])) zeros) ones) ≡ pos 38145
-  pub forward_inner : shown (dot count_ops 2 (forward count_ops (at_step 0) 0 (counted 1) ones (counts (0 ∷ 0 ∷ []))) (counts (1 ∷ 1 ∷ []))) ≡ pos 38145
+  pub back_voxels : map shown (back count_ops (at_step 0) 0 (counted 1) (counts (1 ∷ 1 ∷ [])) zeros) ≡ pos 9120 ∷ pos 9120 ∷ pos 10000 ∷ pos 10000 ∷ []
+  pub back_inner : shown (dot count_ops 4 (back count_ops (at_step 0) 0 (counted 1) (counts (1 ∷ 1 ∷ [])) zeros) ones) ≡ pos 38240
+  pub forward_inner : shown (dot count_ops 2 (forward count_ops (at_step 0) 0 (counted 1) ones (counts (0 ∷ 0 ∷ []))) (counts (1 ∷ 1 ∷ []))) ≡ pos 38240
   -- step 0: the row forward and back, its outcome with the test stores, and its start with the mirrored row's outcome from them
   pub row_side : shown (inner count_ops (at_step 0) (outcome count_ops (at_step 0) there_and_back row_start) row_test) ≡ pos 19120
   pub mirrored_side : shown (inner count_ops (at_step 0) row_start (outcome count_ops (at_step 0) (mirrored there_and_back) row_test)) ≡ pos 19120
   -- step 8, the slab from 0 to 100: voxel (0, 1), at place 2, and voxel (1, 1), at place 3, on columns 0 and 1
-  pub tie_left : map ((at_step 8).weight 0 2) (0 ∷ 1 ∷ []) ≡ 5130 ∷ 5565 ∷ []
-  pub tie_right : map ((at_step 8).weight 0 3) (0 ∷ 1 ∷ []) ≡ 0 ∷ 10920 ∷ []
+  pub tie_left : map ((at_step 8).weight 0 2) (0 ∷ 1 ∷ []) ≡ 5184 ∷ 5724 ∷ []
+  pub tie_right : map ((at_step 8).weight 0 3) (0 ∷ 1 ∷ []) ≡ 0 ∷ 10918 ∷ []
   -- step 32: S goes down, and voxel (0, 0) lands on column 1
   pub turned_S : map (from 32).S (0 ∷ 1 ∷ 2 ∷ []) ≡ pos 100 ∷ pos 0 ∷ minus 100 ∷ []
   pub turned_weight : (at_step 32).weight 0 0 1 ≡ 10000

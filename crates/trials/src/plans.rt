@@ -5,6 +5,7 @@ use scan::draft::Draft;
 use scan::even::EvenAxis;
 use scan::landed::Landed;
 use scan::listed::ListedAxis;
+use scan::plan::Plan;
 use scan::refusal::Refusal;
 use std::alloc::{AllocError, Global};
 use std::test::Fail;
@@ -134,9 +135,45 @@ fn a_view_answers_where_edges_land(rt: HostRuntime) -> Result<(), Fail> {
             view.column_edge(0),
             view.row_edge(0, 0),
         ),
-        (-91, -46, -250, -13)
+        (-91, -45, -250, -13)
     );
     assert!(rt; plan.view(1).is_none());
+    Ok(())
+}
+
+// Thin cells before, about and behind the rotation axis.
+fn thin() -> Result<Plan, Refusal> {
+    let x = ListedAxis::new(&[-6, -3, -1, 1, 3, 6])?;
+    let y = ListedAxis::new(&[-600, -400, 400, 600])?;
+    let height = ListedAxis::new(&[-3, -1, 1, 3])?;
+    let column = ListedAxis::new(&[-5, -3, -1, 1, 3, 5])?;
+    let mut draft = Draft::new(1500, 3000, &x, &y, &height, &column, &height)?;
+    draft.add_view(0)?;
+    draft.add_view(32)?;
+    Ok(draft.seal())
+}
+
+#[test]
+fn halves_land_farther_from_zero(rt: HostRuntime) -> Result<(), Fail> {
+    let plan = thin()?;
+    let ahead = plan.view(0).ok_or("no view")?;
+    let behind = plan.view(1).ok_or("no view")?;
+    let edges = [0, 1, 2, 3, 4, 5];
+    assert_eq!(rt;
+        edges.map(|i| ahead.cross_edge(2, i)),
+        [-9, -5, -2, 2, 5, 9]
+    );
+    assert_eq!(rt;
+        edges.map(|i| behind.cross_edge(2, i)),
+        [-5, -2, -1, 1, 2, 5]
+    );
+    assert_eq!(rt; edges.map(|k| ahead.column_edge(k)), [-3, -2, -1, 1, 2, 3]);
+    assert_eq!(rt; edges.map(|k| behind.column_edge(k)), [3, 2, 1, -1, -2, -3]);
+    let edges = [0, 1, 2, 3];
+    assert_eq!(rt; edges.map(|l| ahead.height_edge(2, l)), [-5, -2, 2, 5]);
+    assert_eq!(rt; edges.map(|l| behind.height_edge(0, l)), [-5, -2, 2, 5]);
+    assert_eq!(rt; edges.map(|m| ahead.row_edge(0, m)), [-2, -1, 1, 2]);
+    assert_eq!(rt; edges.map(|m| behind.row_edge(0, m)), [-2, -1, 1, 2]);
     Ok(())
 }
 
@@ -146,9 +183,9 @@ fn the_first_panel_cell_starts_where_the_formulas_say(rt: HostRuntime) -> Result
     let plan = small(&[0, 8, 16, 24, 32])?;
     let cells = [
         (-100, 0, -50, 50),
-        (-129, 0, -48, 47),
+        (-129, 0, -48, 48),
         (-100, 0, -50, 50),
-        (157, 0, -53, 52),
+        (157, 0, -53, 53),
         (100, 0, -50, 50),
     ];
     for (number, cell) in cells.iter().enumerate() {

@@ -22,7 +22,7 @@ fn the_worked_plan_gives_its_figures(rt: HostRuntime) -> Result<(), Fail> {
     assert_eq!(rt; working.map(i64::from), worked_cells());
     let mut volume = [Count::ZERO; 4];
     back(&plan, 0, Count::from(1), &mut volume, &ones)?;
-    assert_eq!(rt; volume.map(i64::from), [9120, 9025, 10000, 10000]);
+    assert_eq!(rt; volume.map(i64::from), [9120, 9120, 10000, 10000]);
     Ok(())
 }
 
@@ -63,10 +63,10 @@ fn slabs_along_x_are_swept_both_ways(rt: HostRuntime) -> Result<(), Fail> {
     let mut volume = [1, 2, 3, 4].map(Count::from);
     let mut working = [5, 5].map(Count::from);
     forward(&plan, 0, Count::from(3), &volume, &mut working)?;
-    assert_eq!(rt; working.map(i64::from), [95129, 176351]);
+    assert_eq!(rt; working.map(i64::from), [94637, 174875]);
     let cells = [7, -2].map(Count::from);
     back(&plan, 0, Count::from(3), &mut volume, &cells)?;
-    assert_eq!(rt; volume.map(i64::from), [158131, 167582, -56235, -2846]);
+    assert_eq!(rt; volume.map(i64::from), [159409, 165818, -55689, -2816]);
     Ok(())
 }
 
@@ -79,7 +79,7 @@ fn uneven_cells_are_swept_forward(rt: HostRuntime) -> Result<(), Fail> {
     assert_eq!(rt;
         working.map(i64::from),
         [
-            0, 0, 0, 0, 0, 0, -28840, -65035, -13520, -387958, -388848, -90012,
+            0, 0, 0, 0, 0, 0, -28413, -63011, -13260, -388137, -382343, -88140,
         ]
     );
     Ok(())
@@ -94,12 +94,12 @@ fn pairs_are_swept_forward(rt: HostRuntime) -> Result<(), Fail> {
     forward(&plan, 0, minus, &volume, &mut working)?;
     let zero = (0, 0);
     let cells = [
-        (-36852, -80778),
-        (-55791, -117720),
-        (-97095, -199839),
-        (-332498, -671924),
-        (-373456, -752926),
-        (-457820, -921176),
+        (-36192, -79392),
+        (-55438, -117050),
+        (-97314, -200229),
+        (-332592, -672192),
+        (-378910, -763994),
+        (-465066, -935733),
         zero,
         zero,
         zero,
@@ -119,18 +119,18 @@ fn pairs_are_swept_back(rt: HostRuntime) -> Result<(), Fail> {
     let mut volume = [Pair::ZERO; 12];
     back(&plan, 0, minus, &mut volume, &cells)?;
     let expected = [
-        (-37422, -78606),
-        (-43350, -90462),
-        (-37020, -76776),
-        (-49971, -104751),
-        (-55682, -115756),
-        (-42650, -88350),
+        (-38412, -80652),
+        (-45142, -94170),
+        (-37098, -76922),
+        (-49932, -104652),
+        (-54312, -112908),
+        (-43503, -90117),
         (-37620, -77748),
-        (-41572, -85652),
-        (-33896, -69616),
-        (-47820, -98748),
-        (-50960, -104800),
-        (-38000, -78000),
+        (-42218, -86982),
+        (-33174, -68134),
+        (-48500, -100148),
+        (-50656, -104176),
+        (-39729, -81549),
     ];
     assert_eq!(rt; volume.map(parts), expected);
     Ok(())
@@ -159,9 +159,9 @@ fn more_columns_than_a_block_are_swept_forward(rt: HostRuntime) -> Result<(), Fa
     forward(&plan, 0, Count::from(2), &volume, &mut working)?;
     // The columns of row 0, and then those of row 1.
     let expected = [
-        19552, 29328, 29328, 32448, 26592, 28028, 30184, 28158, 28824, 21190, 16576, 17820, 17820,
-        18542, 10516, 1728, 1728, 1836, 75968, 113952, 113952, 126620, 130438, 171912, 185136,
-        173602, 180806, 167280, 148624, 160740, 160740, 167496, 109232, 51232, 51232, 54434,
+        19136, 29328, 31772, 31772, 26208, 27456, 28028, 30184, 28824, 19950, 17760, 17760, 17820,
+        17300, 10516, 1696, 1802, 1802, 74432, 114576, 124124, 124124, 134136, 168168, 172484,
+        185752, 181392, 155670, 159600, 159600, 161100, 155660, 109444, 50080, 53210, 53210,
     ];
     assert_eq!(rt; working.map(i64::from), expected);
     Ok(())
@@ -175,7 +175,7 @@ fn more_columns_than_a_block_are_swept_back(rt: HostRuntime) -> Result<(), Fail>
     let mut volume = [Count::ZERO; 12];
     back(&plan, 0, Count::from(2), &mut volume, &cells)?;
     let expected = [
-        171012, 135392, 64368, 140204, 80058, 31700, 205368, 181208, 102438, 187980, 134136, 76384,
+        176584, 136864, 67780, 143130, 84410, 33386, 204556, 176276, 102916, 185562, 135338, 75314,
     ];
     assert_eq!(rt; volume.map(i64::from), expected);
     Ok(())
