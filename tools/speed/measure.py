@@ -3,9 +3,12 @@
 
     tools/speed/measure.py compare [--rounds N] [CASE ..]   the library beside the C program yardstick.c, in turn
     tools/speed/measure.py growth [--rounds N]              how the library's time grows with panel and heights
+    tools/speed/measure.py beside --other BENCH [--rounds N] [CASE ..]
+                                                            the library beside another build of `bench`, in turn
 
 A CASE is the arguments of both programs in quotes, such as "128 8 128 128 uneven". `compare` also fails where the two
-print different results. The program `bench` must have been built from the sources as they are: (cd crates/bench && rt run).
+print different results; `beside` does not, since another commit may define other results. The program `bench` must have
+been built from the sources as they are: (cd crates/bench && rt run).
 yardstick.c is compiled by `gcc -O3` into a temporary folder. What is printed are tables in Markdown.
 """
 
@@ -52,21 +55,38 @@ def cells(ours, theirs):
         yield f"{c:.3f} s | {library:.3f} s | {c / library:.2f} | {fastest_c / fastest_library:.2f}"
 
 
-def compared(yardstick, case, rounds):
-    """The runs of both programs, made in turn so that what else the machine does hits both alike."""
+def raced(other, case, rounds):
+    """The runs of the library and of another program, made in turn so that what else the machine does hits both alike."""
     ours, theirs = [], []
     for _ in range(rounds):
-        theirs.append(run(yardstick, case))
+        theirs.append(run(other, case))
         ours.append(run(BENCH, case))
+    return ours, theirs
+
+
+def compared(yardstick, case, rounds):
+    """The runs of the library and of the C program, which print the same."""
+    ours, theirs = raced(yardstick, case, rounds)
     printed = [results for _, _, results in ours + theirs]
     if any(other != printed[0] for other in printed):
         sys.exit(f"different results for {case}: {printed}")
     return ours, theirs
 
 
-def compare(cases, rounds):
-    print("| arguments | forward, C | forward | times as fast | fastest runs | back, C | back | times as fast | fastest runs |")
+def headed(other):
+    print(f"| arguments | forward, {other} | forward | times as fast | fastest runs | back, {other} | back | times as fast | fastest runs |")
     print("|---|---|---|---|---|---|---|---|---|")
+
+
+def beside(other, cases, rounds):
+    headed("other")
+    for case in cases:
+        forward, back = cells(*raced(other, case, rounds))
+        print(f"| {case} | {forward} | {back} |", flush=True)
+
+
+def compare(cases, rounds):
+    headed("C")
     with tempfile.TemporaryDirectory() as folder:
         yardstick = pathlib.Path(folder) / "yardstick"
         subprocess.run(["gcc", "-O3", HERE / "yardstick.c", "-o", yardstick], check=True)
@@ -101,16 +121,21 @@ def growth(rounds):
 
 def main():
     parser = argparse.ArgumentParser(description=__doc__, formatter_class=argparse.RawDescriptionHelpFormatter)
-    parser.add_argument("what", choices=["compare", "growth"])
+    parser.add_argument("what", choices=["compare", "growth", "beside"])
     parser.add_argument("cases", nargs="*", default=CASES, metavar="CASE")
+    parser.add_argument("--other", type=pathlib.Path, metavar="BENCH", help="another build of `bench`, for beside")
     parser.add_argument("--rounds", type=int, default=9)
     arguments = parser.parse_intermixed_args()
     if arguments.what == "growth" and arguments.cases is not CASES:
         parser.error("growth takes no cases")
+    if (arguments.what == "beside") != (arguments.other is not None):
+        parser.error("beside, and it alone, takes --other")
     if not BENCH.exists():
         sys.exit(f"{BENCH} is not there: (cd crates/bench && rt run)")
     if arguments.what == "compare":
         compare(arguments.cases, arguments.rounds)
+    elif arguments.what == "beside":
+        beside(arguments.other.resolve(), arguments.cases, arguments.rounds)
     else:
         growth(arguments.rounds)
 

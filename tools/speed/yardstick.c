@@ -25,8 +25,8 @@ typedef struct {
     i64 x[MOST_EDGES], z[MOST_EDGES], k[MOST_EDGES], g[MOST_EDGES]; /* y has the edges of x */
 } plan;
 
-/* The whole number nearest to n / d, halves away from zero: one step on from n / d, which drops its fraction, where what is
-   left over is half of d or more. What is left over is less than d, so twice of it fits. */
+/* The whole number nearest to n / d, halves away from zero: one step on from n / d, which drops its fraction, where twice
+   what is left over is |d| or more. What is left over is less than |d|, which is at most 2^41, so twice of it fits. */
 static i64 nearest(i64 n, i64 d)
 {
     i64 q = n / d, r = n % d;

@@ -1,41 +1,25 @@
 -- Laws of division to the nearest whole number.
-use Rattle.std.proofs.Common.{◌≡◌, ℕ, zero, suc, ◌+◌, ◌*◌, ◌/◌, ◌<◌, ◌≤◌, ℤ, pos, negsuc, ◌*ℤ◌, neg_ℤ, nat_abs, ◌≤ℤ◌, ◌<ℤ◌, mul-le-mul_right, mul_comm, mul_assoc, add-mul, one-mul, ⊎_elim, arith}
+use Rattle.std.proofs.Common.{◌≡◌, ℕ, zero, suc, ◌+◌, ◌*◌, ◌/◌, ◌<◌, ◌≤◌, ℤ, pos, negsuc, ◌*ℤ◌, neg_ℤ, nat_abs, ◌≤ℤ◌, ◌<ℤ◌, sym, subst, mul-le-mul_right, mul_comm, mul_assoc, add-mul, one-mul, ⊎_elim, arith}
 use lib.IntN.{*ℤ-negsuc}
 use borrow.Author.Differences.{ints}
 use Rattle.std.proofs.lemmas.Int.{unsigned_abs-mul}
 use Rattle.std.proofs.lemmas.Bool.{cases_lt}
 use Rattle.std.proofs.lemmas.Nat.{div-add-mod'}
-use Rattle.geometry.specs.Nearest.{nearest, RoundsToNearest, RoundsOddly}
+use Rattle.geometry.specs.Nearest.{nearest, Nearest, RoundsToNearest, RoundsOddly}
 use Rattle.geometry.proofs.Products.{negℤ-*ℤ, *ℤ-negℤ, times_up, times_down}
 
 -- a / m to the nearest, halves upwards: what the nearest does to the sizes of a dividend and a divisor
 abbrev size : ℕ → ℕ → ℕ
 size a m = (a + m / 2) / m
 
--- it lies within half of m from a
+-- with r for the size: a - m / 2 < r m <= a + m / 2
 size_low : (a d : ℕ) → 2 * (size a (suc d) * suc d) ≤ 2 * a + suc d
 size_low a d = omega (arith, div-add-mod' (a + suc d / 2) (suc d))
 
 size_high : (a d : ℕ) → 2 * a + 1 ≤ 2 * (size a (suc d) * suc d) + suc d
 size_high a d = omega (arith, div-add-mod' (a + suc d / 2) (suc d))
 
-pub nearest_is : RoundsToNearest
-nearest_is n (pos zero) p = absurd (omega arith)
-nearest_is (pos a) (pos (suc d)) p =
-    record { near = omega (arith, ints, size_low a d, size_high a d); away = λ e. omega (arith, ints, size_low a d, size_high a d, unsigned_abs-mul (pos (size a (suc d))) (pos (suc d))) }
-nearest_is (negsuc a) (pos (suc d)) p =
-    let e = negℤ-*ℤ (pos (size (suc a) (suc d))) (pos (suc d)) in
-    record { near = omega (arith, ints, e, size_low (suc a) d, size_high (suc a) d); away = λ h. omega (arith, ints, e, size_low (suc a) d, size_high (suc a) d) }
-nearest_is (pos a) (negsuc d) p =
-    let r = pos (size a (suc d)) in
-    let e = negℤ-*ℤ r (negsuc d) in
-    let g = *ℤ-negsuc r d in
-    record { near = omega (arith, ints, e, g, size_low a d, size_high a d); away = λ h. omega (arith, ints, e, g, size_low a d, size_high a d) }
-nearest_is (negsuc a) (negsuc d) p =
-    let g = *ℤ-negsuc (pos (size (suc a) (suc d))) d in
-    record { near = omega (arith, ints, g, size_low (suc a) d, size_high (suc a) d); away = λ h. omega (arith, ints, g, size_low (suc a) d, size_high (suc a) d) }
-
--- that of a greater fraction is no less, told by products
+-- the size rises with the fraction: a / D <= b / E, told by products
 size_cross : (a d b e : ℕ) → a * suc e ≤ b * suc d → size a (suc d) ≤ size b (suc e)
 size_cross a d b e h =
     let D : ℕ = suc d in
@@ -50,7 +34,7 @@ size_cross a d b e h =
     absurd (omega (arith, add-mul t 1 (D * E), one-mul (D * E), mul_assoc 2 (r * D) E, mul_assoc r D E, add-mul (2 * a) D E, mul_assoc 2 a E, add-mul (2 * b) 1 D, mul_assoc 2 b D, one-mul D, add-mul (2 * (t * E)) E D, mul_assoc 2 (t * E) D, mul_assoc t E D, mul_comm E D)))
     (λ (l : r ≤ t). l) (cases_lt t r)
 
--- no more than a whole bound on the fraction
+-- the size is at most any whole bound of the fraction
 size_within : (a d B : ℕ) → a ≤ B * suc d → size a (suc d) ≤ B
 size_within a d B h =
     let D : ℕ = suc d in
@@ -64,7 +48,7 @@ size_within a d B h =
 size_none : (d : ℕ) → size 0 (suc d) ≡ 0
 size_none d = omega (arith, size_within 0 d 0 (omega arith))
 
--- a fraction and its negative differ in the sign alone
+-- a dividend and its negative give each other's negatives
 pub nearest_odd : RoundsOddly
 nearest_odd (pos zero) (pos zero) = omega (arith, ints)
 nearest_odd (pos zero) (pos (suc d)) = omega (arith, ints, size_none d)
@@ -74,40 +58,66 @@ nearest_odd (pos (suc a)) (negsuc d) = omega (arith, ints)
 nearest_odd (negsuc a) (pos d) = omega (arith, ints)
 nearest_odd (negsuc a) (negsuc d) = omega (arith, ints)
 
-pub nearest_within : (n d : ℤ) (B : ℕ) → nat_abs n ≤ B * nat_abs d → 0 < nat_abs d → nat_abs (nearest n d) ≤ B
-nearest_within n (pos zero) B h p = absurd (omega arith)
-nearest_within (pos a) (pos (suc d)) B h p = size_within a d B h
-nearest_within (negsuc a) (pos (suc d)) B h p = omega (arith, ints, size_within (suc a) d B h)
-nearest_within (pos a) (negsuc d) B h p = omega (arith, ints, size_within a d B h)
-nearest_within (negsuc a) (negsuc d) B h p = size_within (suc a) d B h
+-- a divisor below 0 turns both signs
+signs_turned : (n : ℤ) (d : ℕ) → nearest n (negsuc d) ≡ nearest (neg_ℤ n) (pos (suc d))
+signs_turned (pos zero) d = omega (arith, ints, size_none d)
+signs_turned (pos (suc a)) d = omega (arith, ints)
+signs_turned (negsuc a) d = omega (arith, ints)
 
--- the nearest of n / d <= n' / d', told by products, at divisors that are both above 0
-over_sizes : (n n' : ℤ) (d d' : ℕ) → (n *ℤ pos (suc d')) ≤ℤ (n' *ℤ pos (suc d)) → nearest n (pos (suc d)) ≤ℤ nearest n' (pos (suc d'))
-over_sizes (pos a) (pos b) d d' h = omega (arith, ints, size_cross a d b d' (omega (arith, ints)))
-over_sizes (pos a) (negsuc b) d d' h = absurd (omega (arith, ints))
-over_sizes (negsuc a) (pos b) d d' h = omega (arith, ints)
-over_sizes (negsuc a) (negsuc b) d d' h = omega (arith, ints, size_cross (suc b) d' (suc a) d (omega (arith, ints)))
+is_above : (n : ℤ) (d : ℕ) → Nearest n (pos (suc d)) (nearest n (pos (suc d)))
+is_above (pos a) d =
+    let low = size_low a d in
+    let high = size_high a d in
+    let product = unsigned_abs-mul (pos (size a (suc d))) (pos (suc d)) in
+    record { near = omega (arith, ints); away = λ e. omega (arith, ints) }
+is_above (negsuc a) d =
+    let low = size_low (suc a) d in
+    let high = size_high (suc a) d in
+    let product = negℤ-*ℤ (pos (size (suc a) (suc d))) (pos (suc d)) in
+    record { near = omega (arith, ints); away = λ e. omega (arith, ints) }
+
+pub nearest_is : RoundsToNearest
+nearest_is n (pos zero) p = absurd (omega arith)
+nearest_is n (pos (suc d)) p = is_above n d
+nearest_is n (negsuc d) p =
+    let r = nearest (neg_ℤ n) (pos (suc d)) in
+    let above = is_above (neg_ℤ n) d in
+    let product = *ℤ-negsuc r d in
+    subst (Nearest n (negsuc d)) (sym (signs_turned n d))
+    (record { near = omega (arith, ints, above.near); away = λ e. omega (arith, ints, above.away (omega (arith, ints))) })
+
+within_above : (n : ℤ) (d B : ℕ) → nat_abs n ≤ B * suc d → nat_abs (nearest n (pos (suc d))) ≤ B
+within_above (pos a) d B h = size_within a d B h
+within_above (negsuc a) d B h = omega (arith, ints, size_within (suc a) d B h)
+
+pub nearest_within : (n d : ℤ) (B : ℕ) → nat_abs n ≤ B * nat_abs d → nat_abs (nearest n d) ≤ B
+nearest_within (pos a) (pos zero) B h = omega (arith, ints)
+nearest_within (negsuc a) (pos zero) B h = omega (arith, ints)
+nearest_within n (pos (suc d)) B h = within_above n d B h
+nearest_within n (negsuc d) B h = omega (arith, ints, signs_turned n d, within_above (neg_ℤ n) d B (omega (arith, ints)))
+
+-- where n / d <= n' / d', told by products, so are the nearest; first at divisors above 0
+cross_above : (n : ℤ) (d : ℕ) (n' : ℤ) (d' : ℕ) → (n *ℤ pos (suc d')) ≤ℤ (n' *ℤ pos (suc d)) → nearest n (pos (suc d)) ≤ℤ nearest n' (pos (suc d'))
+cross_above (pos a) d (pos b) d' h = omega (arith, ints, size_cross a d b d' (omega (arith, ints)))
+cross_above (pos a) d (negsuc b) d' h = absurd (omega (arith, ints))
+cross_above (negsuc a) d (pos b) d' h = omega (arith, ints)
+cross_above (negsuc a) d (negsuc b) d' h = omega (arith, ints, size_cross (suc b) d' (suc a) d (omega (arith, ints)))
 
 pub nearest_cross : (n d n' d' : ℤ) → pos 0 <ℤ d → pos 0 <ℤ d' → (n *ℤ d') ≤ℤ (n' *ℤ d) → nearest n d ≤ℤ nearest n' d'
 nearest_cross n (pos zero) n' d' p q h = absurd (omega (arith, ints))
 nearest_cross n (negsuc d) n' d' p q h = absurd (omega (arith, ints))
 nearest_cross n (pos (suc d)) n' (pos zero) p q h = absurd (omega (arith, ints))
 nearest_cross n (pos (suc d)) n' (negsuc d') p q h = absurd (omega (arith, ints))
-nearest_cross n (pos (suc d)) n' (pos (suc d')) p q h = over_sizes n n' d d' h
+nearest_cross n (pos (suc d)) n' (pos (suc d')) p q h = cross_above n d n' d' h
 
--- and both below 0
-turned : (n : ℤ) (d : ℕ) → nearest n (negsuc d) ≡ nearest (neg_ℤ n) (pos (suc d))
-turned (pos zero) d = omega (arith, ints, size_none d)
-turned (pos (suc a)) d = omega (arith, ints)
-turned (negsuc a) d = omega (arith, ints)
-
+-- and then at divisors that are both below 0
 pub nearest_cross_below : (n d n' d' : ℤ) → d <ℤ pos 0 → d' <ℤ pos 0 → (n *ℤ d') ≤ℤ (n' *ℤ d) → nearest n d ≤ℤ nearest n' d'
 nearest_cross_below n (pos d) n' d' p q h = absurd (omega (arith, ints))
 nearest_cross_below n (negsuc d) n' (pos d') p q h = absurd (omega (arith, ints))
 nearest_cross_below n (negsuc d) n' (negsuc d') p q h =
     let l : (neg_ℤ n *ℤ pos (suc d')) ≤ℤ (neg_ℤ n' *ℤ pos (suc d)) =
     omega (arith, ints, negℤ-*ℤ n (pos (suc d')), negℤ-*ℤ n' (pos (suc d)), *ℤ-negℤ n (pos (suc d')), *ℤ-negℤ n' (pos (suc d))) in
-    let t = over_sizes (neg_ℤ n) (neg_ℤ n') d d' l in omega (arith, ints, turned n d, turned n' d')
+    let t = cross_above (neg_ℤ n) d (neg_ℤ n') d' l in omega (arith, ints, signs_turned n d, signs_turned n' d')
 
 pub nearest_rises : (m n d : ℤ) → pos 0 <ℤ d → m ≤ℤ n → nearest m d ≤ℤ nearest n d
 nearest_rises m n d p h = nearest_cross m d n d p p (times_up d m n p h)

@@ -16,9 +16,9 @@ use Rattle.geometry.proofs.Conditions.{Placed, Reached, Beside}
 abbrev Along : ℤ → ℤ → ℤ → Type 0
 Along a m n = (pos 0 <ℤ a → m ≤ℤ n) × (a <ℤ pos 0 → n ≤ℤ m)
 
--- over a divisor on a's side, their quotients rise
-quotients_rise : (m n d a b : ℤ) → Beside a d → Steep a b → Along a m n → nearest m d ≤ℤ nearest n d
-quotients_rise m n d a b s t h =
+-- over a divisor on a's side, the nearest rise
+nearest_along : (m n d a b : ℤ) → Beside a d → Steep a b → Along a m n → nearest m d ≤ℤ nearest n d
+nearest_along m n d a b s t h =
     by_lt_z (pos 0) a
     (λ (u : pos 0 <ℤ a). nearest_rises m n d (s.above u) (h.0 u))
     (λ (v : a ≤ℤ pos 0). let u : a <ℤ pos 0 = omega (arith, ints, t.least) in nearest_falls n m d (s.below u) (h.1 u))
@@ -31,7 +31,7 @@ cross_rises D a b Q p s e f h =
     λ u. let y = times_up a (pos 2 *ℤ e) (pos 2 *ℤ f) u x in omega (arith, ints) in
     let down : (a <ℤ pos 0) → (pos 2 *ℤ f *ℤ a +ℤ Q *ℤ b) ≤ℤ (pos 2 *ℤ e *ℤ a +ℤ Q *ℤ b) =
     λ u. let y = times_down a (pos 2 *ℤ e) (pos 2 *ℤ f) u x in omega (arith, ints) in
-    quotients_rise _ _ _ a b (depth_beside D a b Q p s) s (λ u. times_left D _ _ p.some (up u), λ u. times_left D _ _ p.some (down u))
+    nearest_along _ _ _ a b (depth_beside D a b Q p s) s (λ u. times_left D _ _ p.some (up u), λ u. times_left D _ _ p.some (down u))
 
 -- 2 D a x
 scaled : (D a x y : ℤ) → pos 0 <ℤ D → x ≤ℤ y → Along a (pos 2 *ℤ D *ℤ a *ℤ x) (pos 2 *ℤ D *ℤ a *ℤ y)
@@ -44,11 +44,11 @@ scaled D a x y p h =
 
 pub height_rises : (D a b Q : ℤ) → Placed D Q → Steep a b → (y z : ℤ) → y ≤ℤ z → height_edge D a Q y ≤ℤ height_edge D a Q z
 unfolding height_edge
-height_rises D a b Q p s y z h = quotients_rise _ _ _ a b (depth_beside D a b Q p s) s (scaled D a y z p.some h)
+height_rises D a b Q p s y z h = nearest_along _ _ _ a b (depth_beside D a b Q p s) s (scaled D a y z p.some h)
 
 pub row_rises : (D F a b K : ℤ) → pos 0 <ℤ D → Reached (pos 2 *ℤ F) K → Steep a b → (g h : ℤ) → g ≤ℤ h → row_edge D F a b K g ≤ℤ row_edge D F a b K h
 unfolding row_edge
-row_rises D F a b K p r s g h l = quotients_rise _ _ _ a b (panel_depth_beside (pos 2 *ℤ F) a b K r s) s (scaled D a g h p l)
+row_rises D F a b K p r s g h l = nearest_along _ _ _ a b (panel_depth_beside (pos 2 *ℤ F) a b K r s) s (scaled D a g h p l)
 
 module _ (D F a b k l : ℤ) (some : pos 0 <ℤ D) (p : Reached F k) (q : Reached F l) (s : Steep a b) (h : k ≤ℤ l) where
   -- k (F a - l b) = k F a - k l b

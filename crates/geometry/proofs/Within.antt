@@ -5,7 +5,6 @@ use borrow.Author.Differences.{ints}
 use Rattle.geometry.specs.Landed.{depth, cross_edge, height_edge}
 use Rattle.geometry.proofs.NearestLaws.{nearest_within}
 use Rattle.geometry.proofs.Size.{abs_times_3, abs_plus}
-use Rattle.geometry.proofs.Divisors.{depth_beside}
 use Rattle.geometry.proofs.Words.{Reads}
 use Rattle.geometry.proofs.Dividends.{cross_made, height_made, column_made}
 use Rattle.geometry.specs.Steep.{Steep}
@@ -40,11 +39,11 @@ module _ (D a b Q : ℤ) (p : Placed D Q) (s : Steep a b) where
       omega (arith, abs_plus (pos 2 *ℤ e *ℤ a) (Q *ℤ b), abs_times_3 (pos 2) e a, unsigned_abs-mul Q b, mul-le-mul_right (nat_abs a) h, mul-le-mul q s.side) in
       let y : nat_abs (D *ℤ (pos 2 *ℤ e *ℤ a +ℤ Q *ℤ b)) ≤ 16777216 * (nat_abs D * nat_abs a) =
       omega (arith, unsigned_abs-mul D (pos 2 *ℤ e *ℤ a +ℤ Q *ℤ b), mul-le-mul_left (nat_abs D) x) in
-      nearest_within _ (depth D a Q) 29360128 (omega (arith, y, lead, depth_least, p.near)) (depth_beside D a b Q p s).apart
+      nearest_within _ (depth D a Q) 29360128 (omega (arith, y, lead, depth_least, p.near))
 
   pub height_within : (z : ℤ) → nat_abs z ≤ 4194304 → nat_abs (height_edge D a Q z) ≤ 2 ^ 24
   unfolding height_edge
   height_within z h =
       let y : nat_abs (pos 2 *ℤ D *ℤ a *ℤ z) ≤ 8388608 * (nat_abs D * nat_abs a) =
       omega (arith, unsigned_abs-mul (pos 2 *ℤ D *ℤ a) z, abs_times_3 (pos 2) D a, mul-le-mul_left (nat_abs (pos 2 *ℤ D *ℤ a)) h) in
-      nearest_within _ (depth D a Q) (2 ^ 24) (omega (arith, y, lead, depth_least, p.near)) (depth_beside D a b Q p s).apart
+      nearest_within _ (depth D a Q) (2 ^ 24) (omega (arith, y, lead, depth_least, p.near))

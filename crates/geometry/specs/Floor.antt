@@ -6,7 +6,7 @@ abbrev pub floor_by : ℤ → ℕ → ℤ
 floor_by (pos a) m = pos (a / m)
 floor_by (negsuc a) m = negsuc (a / m)
 
--- ⌊n / d⌋, n / d rounded down: where d is below 0, n and d are both negated first. Division by zero gives 0, and no plan divides by zero.
+-- ⌊n / d⌋, n / d rounded down: where d is below 0, n and d are both negated first. Division by zero gives 0.
 abbrev pub floor_div : ℤ → ℤ → ℤ
 floor_div n (pos zero) = pos 0
 floor_div n (pos (suc d)) = floor_by n (suc d)

@@ -72,8 +72,8 @@ impl Pose {
         2 * self.distances.source * self.direction.a * z.at
     }
 
-    /// U: where the edge e of a voxel, across the slab axis, lands from a slab, in whole units. Defined by `cross_edge` of
-    /// specs/Landed.
+    /// U: where the edge e of a voxel, across the slab axis, lands from a slab, to the nearest whole unit. Defined by
+    /// `cross_edge` of specs/Landed.
     pub fn cross_edge(self, slab: Cell, e: Edge) -> i64
         ensures { result ≡ cross_edge self.distances.source self.direction.a self.direction.b (slab_sum self.direction.slabs slab.low.at slab.high.at) e.at }
     {
@@ -81,15 +81,15 @@ impl Pose {
         nearest(self.cross_dividend(middle, e), self.depth(middle))
     }
 
-    /// W: where the edge z of a voxel, along the rotation axis, lands from a slab, in whole units. Defined by `height_edge`
-    /// of specs/Landed.
+    /// W: where the edge z of a voxel, along the rotation axis, lands from a slab, to the nearest whole unit. Defined by
+    /// `height_edge` of specs/Landed.
     pub fn height_edge(self, slab: Cell, z: Edge) -> i64
         ensures { result ≡ height_edge self.distances.source self.direction.a (slab_sum self.direction.slabs slab.low.at slab.high.at) z.at }
     {
         nearest(self.height_dividend(z), self.depth(self.slab_sum(slab)))
     }
 
-    /// S: where the edge k of a panel column lands, in whole units. Defined by `column_edge` of specs/Landed.
+    /// S: where the edge k of a panel column lands, to the nearest whole unit. Defined by `column_edge` of specs/Landed.
     pub fn column_edge(self, k: Edge) -> i64
         ensures { result ≡ column_edge self.distances.source self.distances.panel self.direction.a self.direction.b k.at }
     {
@@ -97,8 +97,8 @@ impl Pose {
         nearest(self.distances.column_dividend(k), panel_depth)
     }
 
-    /// T: where the edge g of a panel row lands, from the middle of a column, in whole units. Defined by `row_edge` of
-    /// specs/Landed.
+    /// T: where the edge g of a panel row lands, from the middle of a column, to the nearest whole unit. Defined by
+    /// `row_edge` of specs/Landed.
     pub fn row_edge(self, column: Cell, g: Edge) -> i64
         ensures { result ≡ row_edge self.distances.source self.distances.panel self.direction.a self.direction.b (column.low.at +ℤ column.high.at) g.at }
     {

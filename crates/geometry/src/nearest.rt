@@ -1,16 +1,15 @@
 // Division to the nearest whole number.
-ghost use Rattle.std.specs.Prelude.{◌≡◌, ◌^◌, ◌<◌, ◌≤◌, unsigned_abs};
-ghost use Rattle.geometry.specs.Nearest.{nearest, Nearest};
+ghost use Rattle.std.specs.Prelude.{◌≡◌, ◌^◌, ◌≤◌, unsigned_abs};
+ghost use Rattle.geometry.specs.Nearest.{nearest};
 
 use crate::floor::floor_div;
 
-// The whole number nearest to n / d, halves away from zero, and 0 where d is 0. Half a divisor is added to the sizes,
-// since twice a dividend might not fit.
+// The whole number nearest to n / d, halves away from zero, and 0 where d is 0. Half of |d| is added to |n|, since twice n
+// might not fit.
 pub(crate) fn nearest(n: i64, d: i64) -> i64
     requires dividend { unsigned_abs n ≤ 2 ^ 62 }
     requires divisor { unsigned_abs d ≤ 2 ^ 62 }
-    ensures value { result ≡ nearest n d }
-    ensures nearest { 0 < unsigned_abs d → Nearest n d result }
+    ensures { result ≡ nearest n d }
 {
     let size = floor_div(n.abs() + d.abs() / 2, d.abs());
     if (n < 0) == (d < 0) { size } else { -size }

@@ -1,11 +1,11 @@
 -- Lemmas, no definitions of the subject: the edges of a scan that keeps the limits land soundly from every direction.
-use Rattle.std.specs.Prelude.{ℕ, zero, suc, ◌+◌, ◌-◌, ◌*◌, ◌/◌, ◌%◌, ◌^◌, ◌<◌, ◌≤◌, min, max, List, [], ◌∷◌, length, ℤ, pos, ◌*ℤ◌, ◌≤ℤ◌, ◌<ℤ◌, fold, slice_index_or, unsigned_abs}
-use Rattle.std.proofs.Common.{inl, inr, arith}
+use Rattle.std.specs.Prelude.{◌≡◌, ℕ, zero, suc, ◌+◌, ◌-◌, ◌*◌, ◌/◌, ◌%◌, ◌^◌, ◌<◌, ◌≤◌, min, max, List, [], ◌∷◌, length, ℤ, pos, ◌*ℤ◌, neg_ℤ, ◌≤ℤ◌, ◌<ℤ◌, fold, slice_index_or, unsigned_abs}
+use Rattle.std.proofs.Common.{ap, ◌∙◌, inl, inr, arith}
 use Rattle.std.proofs.Math.Nat.{mul-le-mul}
 use Rattle.std.proofs.lemmas.Int.{ints, by_lt_z, unsigned_abs-mul}
 use Rattle.geometry.specs.declared.direction.SlabAxis.{SlabAxis}
 use Rattle.geometry.specs.declared.direction.SlabAxis.TheVariants.{X, Y}
-use Rattle.geometry.specs.Landed.{slab_sum}
+use Rattle.geometry.specs.Landed.{slab_sum, cross_edge, height_edge, column_edge, row_edge}
 use Rattle.geometry.specs.Directions.{slab_axis, main_of, side_of}
 use Rattle.geometry.proofs.Size.{abs_plus, abs_minus}
 use Rattle.geometry.proofs.Table.{all_steep}
@@ -18,12 +18,12 @@ use Rattle.scan.specs.Landing.{Landing, Sound, CellLimits, weight, cross_overlap
 use Rattle.scan.specs.Scans.{Scan}
 use Rattle.scan.specs.Limits.{Fitted}
 use Rattle.scan.specs.Views.{slab_edges, cross_edges, slab_sum_of, column_sum_of, landing_of, landing, step_of}
-use Rattle.scan.specs.ViewFacts.{SafeDivisions, MirrorImages, ViewFacts}
+use Rattle.scan.specs.ViewFacts.{SafeDivisions, LandsOpposite, MirrorImages, ViewFacts}
 use Rattle.scan.specs.Numbered.{edge_within, edge_rises}
 use Rattle.geometry.proofs.Conditions.{Placed, Reached}
 use Rattle.geometry.specs.Steep.{Steep}
 use Rattle.geometry.proofs.NearestLaws.{nearest_is, nearest_odd}
-use Rattle.geometry.proofs.MirrorImages.{heights_mirrored, rows_mirrored, crosses_mirrored, columns_mirrored}
+use Rattle.geometry.proofs.MirrorImages.{heights_opposite, rows_opposite, crosses_opposite, columns_opposite}
 
 -- no edge lies farther out than the greatest
 fold_most : (m : ℕ) (es : List ℤ) → m ≤ fold (λ most e. max most (unsigned_abs e)) m es
@@ -44,6 +44,21 @@ counted es p = (omega (arith, p.least), omega (arith, p.most))
 sum_size : (along : SlabAxis) (low high : ℤ) → unsigned_abs (slab_sum along low high) ≤ unsigned_abs low + unsigned_abs high
 sum_size X low high = omega (arith, ints)
 sum_size Y low high = omega (arith, ints)
+
+-- a map of edges that takes negatives to negatives
+opposite : (es : List ℤ) (land : ℤ → ℤ) → ((e : ℤ) → land (neg_ℤ e) ≡ neg_ℤ (land e)) → LandsOpposite es (λ i. land (edge_of es i))
+opposite es land odd i k e = ap land e ∙ odd (edge_of es i)
+
+pub mirror_images : (scan : Scan) (along : SlabAxis) (a b : ℤ) → MirrorImages scan b (landing_of scan along a b)
+mirror_images scan along a b =
+    let D = scan.source in
+    let F = scan.panel in
+    record {
+      heights = λ j. opposite scan.z (height_edge D a (slab_sum_of scan along j)) (heights_opposite D a (slab_sum_of scan along j));
+      rows = λ k. opposite scan.row (row_edge D F a b (column_sum_of scan k)) (rows_opposite D F a b (column_sum_of scan k));
+      crosses = λ h j. opposite (cross_edges scan along) (cross_edge D a b (slab_sum_of scan along j)) (crosses_opposite D a b (slab_sum_of scan along j) h);
+      columns = λ h. opposite scan.column (column_edge D F a b) (columns_opposite D F a b h);
+    }
 
 module _ (scan : Scan) (fitted : Fitted scan) (along : SlabAxis) (a b : ℤ) (steep : Steep a b) where
   slabs_proper : Proper (slab_edges scan along)
@@ -143,17 +158,6 @@ module _ (scan : Scan) (fitted : Fitted scan) (along : SlabAxis) (a b : ℤ) (st
         W_within = λ j l. omega (arith, height_within D a b (Q j) (placed j) steep (edge_of scan.z l) (edge_within scan.z fitted.z l));
       }
 
-  pub mirrored : MirrorImages scan along b (landing_of scan along a b)
-  mirrored =
-      let D = scan.source in
-      let F = scan.panel in
-      record {
-        heights = λ j l m e. heights_mirrored D a (slab_sum_of scan along j) (edge_of scan.z l) (edge_of scan.z m) e;
-        rows = λ k l m e. rows_mirrored D F a b (column_sum_of scan k) (edge_of scan.row l) (edge_of scan.row m) e;
-        crosses = λ h j i k e. crosses_mirrored D a b (slab_sum_of scan along j) (edge_of (cross_edges scan along) i) (edge_of (cross_edges scan along) k) h e;
-        columns = λ h k l e. columns_mirrored D F a b (edge_of scan.column k) (edge_of scan.column l) h e;
-      }
-
 -- the overlaps and the weights of a view that lands soundly
 module _ (L : Landing) (s : Sound L) where
   cross_light : (j i k : ℕ) → cross_overlap L j i k ≤ 67108863
@@ -181,7 +185,7 @@ lands scan fitted v =
       sound = s;
       nearest = nearest_is;
       odd = nearest_odd;
-      mirrored = mirrored scan fitted (slab_axis q) (main_of q) (side_of q) steep;
+      mirror_images = mirror_images scan (slab_axis q) (main_of q) (side_of q);
       safe = safe scan fitted (slab_axis q) (main_of q) (side_of q) steep;
       S_rises = S_rises scan fitted (slab_axis q) (main_of q) (side_of q) steep;
       S_falls = S_falls scan fitted (slab_axis q) (main_of q) (side_of q) steep;

@@ -19,23 +19,23 @@ pub record SafeDivisions (scan : Scan) (along : SlabAxis) (a b : ℤ) : Type 0 w
   pub row_divisor : (k : ℕ) → 0 < unsigned_abs (panel_depth (pos 2 *ℤ scan.panel) a b (column_sum_of scan k))
   pub row_dividend : (m : ℕ) → unsigned_abs (pos 2 *ℤ scan.source *ℤ a *ℤ edge_of scan.row m) ≤ 2 ^ 62
 
--- Edges of an axis that are each other's negatives land at each other's negatives.
-abbrev pub Mirrored : List ℤ → (ℕ → ℤ) → Type 0
-Mirrored es landed = (i k : ℕ) → edge_of es k ≡ neg_ℤ (edge_of es i) → landed k ≡ neg_ℤ (landed i)
+-- Of an axis whose edge i lands at landed i: edges that are each other's negatives land at each other's negatives.
+abbrev pub LandsOpposite : List ℤ → (ℕ → ℤ) → Type 0
+LandsOpposite es landed = (i k : ℕ) → edge_of es k ≡ neg_ℤ (edge_of es i) → landed k ≡ neg_ℤ (landed i)
 
--- Mirror-image edges land at mirror-image places: the heights z and -z of a slab and the row edges g and -g of a column always, and where b is 0 the cross edges e and -e of a slab and the column edges k and -k.
-pub record MirrorImages (scan : Scan) (along : SlabAxis) (b : ℤ) (L : Landing) : Type 0 where
-  pub heights : (j : ℕ) → Mirrored scan.z (L.W j)
-  pub rows : (k : ℕ) → Mirrored scan.row (L.T k)
-  pub crosses : b ≡ pos 0 → (j : ℕ) → Mirrored (cross_edges scan along) (L.U j)
-  pub columns : b ≡ pos 0 → Mirrored scan.column L.S
+-- Mirror-image edges land at mirror-image places: the heights z and -z in a slab and the row edges g and -g in a column always, and where b is 0 the cross edges e and -e in a slab and the column edges k and -k.
+pub record MirrorImages (scan : Scan) (b : ℤ) (L : Landing) : Type 0 where
+  pub heights : (j : ℕ) → LandsOpposite scan.z (L.W j)
+  pub rows : (k : ℕ) → LandsOpposite scan.row (L.T k)
+  pub crosses : b ≡ pos 0 → (j : ℕ) → LandsOpposite (cross_edges scan L.along) (L.U j)
+  pub columns : b ≡ pos 0 → LandsOpposite scan.column L.S
 
--- What is known of view v: it is sound; rounding gives the whole number nearest to a fraction, whatever fraction, and is odd, so that mirror-image edges land at mirror-image places; its divisions are safe; S rises where a is positive and falls where a is negative; and every weight is below 2^52.
+-- What is known of view v: it is sound; rounding gives the whole number nearest to every fraction, halves away from zero, and is odd; mirror-image edges land at mirror-image places; its divisions are safe; S rises where a is positive and falls where a is negative; and every weight is below 2^52.
 pub record ViewFacts (scan : Scan) (v : ℕ) : Type 0 where
   pub sound : Sound (landing scan v)
   pub nearest : RoundsToNearest
   pub odd : RoundsOddly
-  pub mirrored : MirrorImages scan (slab_axis (step_of scan v)) (side_of (step_of scan v)) (landing scan v)
+  pub mirror_images : MirrorImages scan (side_of (step_of scan v)) (landing scan v)
   pub safe : SafeDivisions scan (slab_axis (step_of scan v)) (main_of (step_of scan v)) (side_of (step_of scan v))
   pub S_rises : pos 0 <ℤ main_of (step_of scan v) → (k : ℕ) → (landing scan v).S k ≤ℤ (landing scan v).S (k + 1)
   pub S_falls : main_of (step_of scan v) <ℤ pos 0 → (k : ℕ) → (landing scan v).S (k + 1) ≤ℤ (landing scan v).S k
