@@ -4,6 +4,7 @@ pub mod Size
 pub mod FloorLaws
 pub mod NearestLaws
 pub mod MirrorImages
+pub mod Circles
 pub mod Table
 pub mod Words
 pub mod Dividends

@@ -1,4 +1,5 @@
 pub mod Steps
+pub mod Circle
 pub mod Turn
 pub mod Directions
 pub mod Steep

@@ -1,5 +1,7 @@
 -- The sine s and the cosine c of a step, in 16384ths. A step is 5.625 degrees, counter-clockwise from the y axis.
-use Rattle.std.specs.Prelude.{ℕ, zero, suc, ◌-◌, ◌/◌, ◌%◌, ◌^◌, ◌≤◌, List, [], ◌∷◌, ℤ, pos, ◌+ℤ◌, ◌-ℤ◌, ◌*ℤ◌, neg_ℤ, slice_index_or, unsigned_abs}
+use Rattle.std.specs.Prelude.{ℕ, zero, suc, ◌-◌, ◌/◌, ◌%◌, ◌≤◌, List, [], ◌∷◌, ℤ, pos, neg_ℤ, slice_index_or}
+use Rattle.geometry.specs.Circle.{off_circle}
+use Rattle.geometry.specs.declared.heading.Heading.{Heading}
 
 -- The sines of the steps 0 to 16 of a quarter turn.
 abbrev pub sines : List ℤ
@@ -26,6 +28,10 @@ sin_of q = in_quarter (q / 16) (sine (q % 16)) (sine (16 - q % 16)) (neg_ℤ (si
 abbrev pub cos_of : ℕ → ℤ
 cos_of q = in_quarter (q / 16) (sine (16 - q % 16)) (neg_ℤ (sine (q % 16))) (neg_ℤ (sine (16 - q % 16))) (sine (q % 16))
 
+-- The heading of step q of the whole turn.
+abbrev pub turn : ℕ → Heading
+turn q = record { c = cos_of q; s = sin_of q }
+
 -- The circle rule: c² + s² differs from 2^28 by at most 17,126.
 abbrev pub CircleRule : ℤ → ℤ → Type 0
-CircleRule s c = unsigned_abs (c *ℤ c +ℤ s *ℤ s -ℤ pos (2 ^ 28)) ≤ 17126
+CircleRule s c = off_circle s c ≤ 17126

@@ -11,13 +11,6 @@ pub enum SlabAxis {
 // The unit of sines and cosines.
 pub(crate) const R: i64 = 16_384;
 
-/// The sine and the cosine of a step, in 16384ths.
-#[derive(Clone, Copy, PartialEq, Eq, Debug)]
-pub struct Heading {
-    pub s: i64,
-    pub c: i64,
-}
-
 /// (a, b) is (c, s) where the slabs are the cells of y and (s, -c) where they are the cells of x; |b| <= |a|.
 #[derive(Clone, Copy, PartialEq, Eq, Debug)]
 pub struct Direction {

@@ -136,23 +136,33 @@ impl Direction {
 #[cfg(test)]
 mod tests {
     use super::*;
-    use crate::step::Step;
-    use crate::turn::direction;
 
-    // A view with the source at 1000 and the panel at 2000.
-    fn pose(step: Step) -> Pose {
+    // A view along y, with the source at 1000 and the panel at 2000.
+    fn pose(direction: Direction) -> Pose {
         Pose {
             distances: Distances {
                 source: 1000,
                 panel: 2000,
             },
-            direction: direction(step),
+            direction,
         }
     }
 
-    // Where the edges at -100, 0 and 100 across, and at -50 and 50 up, land from a slab at step 0.
+    const AHEAD: Direction = Direction {
+        slabs: SlabAxis::Y,
+        a: R,
+        b: 0,
+    };
+
+    const BEHIND: Direction = Direction {
+        slabs: SlabAxis::Y,
+        a: -R,
+        b: 0,
+    };
+
+    // Where the edges at -100, 0 and 100 across, and at -50 and 50 up, land from a slab ahead.
     fn landed(slab: Cell) -> ([i64; 3], [i64; 2]) {
-        let pose = pose(Step { number: 0 });
+        let pose = pose(AHEAD);
         let across = [Edge { at: -100 }, Edge { at: 0 }, Edge { at: 100 }];
         let up = [Edge { at: -50 }, Edge { at: 50 }];
         (
@@ -181,7 +191,7 @@ mod tests {
 
     #[test]
     fn columns_land_turned_about_after_half_a_turn(rt: HostRuntime) {
-        let pose = pose(Step { number: 32 });
+        let pose = pose(BEHIND);
         assert_eq!(rt; pose.column_edge(Edge { at: -200 }), 100);
         assert_eq!(rt; pose.column_edge(Edge { at: 0 }), 0);
         assert_eq!(rt; pose.column_edge(Edge { at: 200 }), -100);

@@ -7,6 +7,7 @@ pub mod direction;
 pub mod distances;
 pub mod edge;
 mod floor;
+pub mod heading;
 pub mod landed;
 mod nearest;
 pub mod no_step;

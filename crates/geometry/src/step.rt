@@ -1,6 +1,9 @@
 // A step of the turn.
 ghost use Rattle.std.specs.Prelude.{◌≡◌, ◌<◌};
 
+/// The number of steps of a whole turn.
+pub const STEPS: usize = 64;
+
 /// The last of the steps 0 to 63.
 pub const LAST_STEP: i32 = 63;
 

@@ -1,3 +1,4 @@
 pub mod Clearance
 pub mod Firsts
+pub mod Turned
 pub mod Propers

@@ -1,10 +1,14 @@
 -- What is checked of a draft and of its views, in which order, and the refusal that follows.
 use Rattle.std.specs.Option.{option_or, option_map}
-use Rattle.std.specs.Prelude.{ℕ, ◌*◌, Bool, ◌||◌, List, length, ℤ, pos, Option, int_lt, nat_le, unsigned_abs}
+use Rattle.std.specs.Prelude.{ℕ, ◌*◌, Bool, not, ◌||◌, List, length, ℤ, pos, Option, int_le, int_lt, nat_le, unsigned_abs}
+use Rattle.geometry.specs.Circle.{is_accepted}
+use Rattle.geometry.specs.declared.heading.Heading.{Heading}
 use Rattle.scan.specs.Axes.{edge_of, widest}
+use Rattle.scan.specs.AxisChecks.{count_check}
+use Rattle.scan.specs.Turning.{heading_or_zero}
 use Rattle.scan.specs.Verdicts.{refused_where, first_where}
 use Rattle.scan.specs.declared.refusal.Refusal.{Refusal}
-use Rattle.scan.specs.declared.refusal.Refusal.TheVariants.{SourceDistance, PanelDistance, SourceTooNear, ColumnBeyond, StepOutOfRange, DraftFull}
+use Rattle.scan.specs.declared.refusal.Refusal.TheVariants.{SourceDistance, PanelDistance, SourceTooNear, ColumnBeyond, StepOutOfRange, OffCircle, DraftFull}
 
 -- The first edge with |edge| at the limit or above.
 abbrev pub first_beyond : ℕ → List ℤ → Option ℕ
@@ -32,12 +36,20 @@ clearance_check source panel x y column = option_or (source_check source x y) (c
 abbrev pub draft_check : ℤ → ℤ → List ℤ → List ℤ → List ℤ → Option Refusal
 draft_check source panel x y column = option_or (distances_check source panel) (clearance_check source panel x y column)
 
--- Whether a number is no step: 0 to 63 are.
-abbrev pub no_step : ℤ → Bool
-no_step step = int_lt step (pos 0) || int_lt (pos 63) step
+-- The first heading of a list that is not accepted.
+abbrev pub first_off_circle : List Heading → Option ℕ
+first_off_circle hs = first_where (λ i. not (is_accepted (heading_or_zero hs i))) (length hs)
+
+-- Of a list of directions 2 is checked, that there are 1 to 1,024, and then 11 for the first that is not accepted.
+abbrev pub directions_check : List Heading → Option Refusal
+directions_check hs = option_or (count_check (length hs) 1 1024) (option_map (λ i. OffCircle i (heading_or_zero hs i)) (first_off_circle hs))
+
+-- Whether a number is no step, where there are so many directions: from 0 on, as many numbers are.
+abbrev pub no_step : ℕ → ℤ → Bool
+no_step directions step = int_lt step (pos 0) || int_le (pos directions) step
 
 -- Of a view to be added 9 is checked, a number that is no step, and then 21, a draft that has 1,024 views.
-abbrev pub view_check : ℕ → ℤ → Option Refusal
-view_check views step =
-    option_or (refused_where (no_step step) (StepOutOfRange step))
+abbrev pub view_check : ℕ → ℕ → ℤ → Option Refusal
+view_check views directions step =
+    option_or (refused_where (no_step directions step) (StepOutOfRange step directions))
     (refused_where (nat_le 1024 views) (DraftFull views))

@@ -8,7 +8,7 @@ use Rattle.geometry.specs.declared.direction.SlabAxis.TheVariants.{X, Y}
 use Rattle.geometry.specs.Landed.{slab_sum, cross_edge, height_edge, column_edge, row_edge}
 use Rattle.geometry.specs.Directions.{slab_axis, main_of, side_of}
 use Rattle.geometry.proofs.Size.{abs_plus, abs_minus}
-use Rattle.geometry.proofs.Table.{all_steep}
+use Rattle.geometry.proofs.Circles.{steep as steep_heading}
 use Rattle.geometry.proofs.Divisors.{depth_beside, panel_depth_beside}
 use Rattle.geometry.proofs.OneWay.{cross_rises, height_rises, row_rises, column_rises, column_falls}
 use Rattle.geometry.proofs.Within.{cross_dividend, height_dividend, column_dividend, cross_within, height_within}
@@ -17,9 +17,10 @@ use Rattle.scan.specs.Axes.{Proper, cells_of, edge_of, low_of, high_of, cell_of,
 use Rattle.scan.specs.Landing.{Landing, Sound, CellLimits, weight, cross_overlap, height_overlap, slab_of, cross_of, height_of}
 use Rattle.scan.specs.Scans.{Scan}
 use Rattle.scan.specs.Limits.{Fitted}
-use Rattle.scan.specs.Views.{slab_edges, cross_edges, slab_sum_of, column_sum_of, landing_of, landing, step_of}
+use Rattle.scan.specs.Views.{slab_edges, cross_edges, slab_sum_of, column_sum_of, landing_of, landing, step_of, heading_of}
 use Rattle.scan.specs.ViewFacts.{SafeDivisions, LandsOpposite, MirrorImages, ViewFacts}
 use Rattle.scan.specs.Numbered.{edge_within, edge_rises}
+use Rattle.scan.specs.Turnings.{heading_accepted}
 use Rattle.geometry.proofs.Conditions.{Placed, Reached}
 use Rattle.geometry.specs.Steep.{Steep}
 use Rattle.geometry.proofs.NearestLaws.{nearest_is, nearest_odd}
@@ -178,16 +179,16 @@ module _ (L : Landing) (s : Sound L) where
 pub lands : (scan : Scan) → Fitted scan → (v : ℕ) → ViewFacts scan v
 unfolding landing
 lands scan fitted v =
-    let q = step_of scan v in
-    let steep = all_steep q (fitted.steps v) in
-    let s = sound scan fitted (slab_axis q) (main_of q) (side_of q) steep in
+    let h = heading_of scan v in
+    let steep = steep_heading h (heading_accepted scan.directions fitted.turning (step_of scan v) (fitted.steps v)) in
+    let s = sound scan fitted (slab_axis h) (main_of h) (side_of h) steep in
     record {
       sound = s;
       nearest = nearest_is;
       odd = nearest_odd;
-      mirror_images = mirror_images scan (slab_axis q) (main_of q) (side_of q);
-      safe = safe scan fitted (slab_axis q) (main_of q) (side_of q) steep;
-      S_rises = S_rises scan fitted (slab_axis q) (main_of q) (side_of q) steep;
-      S_falls = S_falls scan fitted (slab_axis q) (main_of q) (side_of q) steep;
+      mirror_images = mirror_images scan (slab_axis h) (main_of h) (side_of h);
+      safe = safe scan fitted (slab_axis h) (main_of h) (side_of h) steep;
+      S_rises = S_rises scan fitted (slab_axis h) (main_of h) (side_of h) steep;
+      S_falls = S_falls scan fitted (slab_axis h) (main_of h) (side_of h) steep;
       light = light (landing scan v) s;
     }

@@ -1,4 +1,5 @@
 pub mod Axes
+pub mod Turning
 pub mod Scans
 pub mod Meanings
 pub mod Limits
@@ -11,4 +12,5 @@ pub mod AxisChecks
 pub mod DraftChecks
 pub mod Numbered
 pub mod Fits
+pub mod Turnings
 pub mod Landings

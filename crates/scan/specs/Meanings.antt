@@ -1,14 +1,8 @@
 -- The scan that a draft or a plan holds.
-use Rattle.std.specs.Prelude.{ℕ, List, map}
-use Rattle.geometry.specs.declared.step.Step.{Step}
 use Rattle.scan.specs.Scans.{Scan}
 use Rattle.scan.specs.declared.layout.Layout.{Layout}
 use Rattle.scan.specs.declared.draft.Draft.{Draft}
 use Rattle.scan.specs.declared.plan.Plan.{Plan}
-
--- The numbers, from 0 to 63, of some steps.
-abbrev pub numbers : List Step → List ℕ
-numbers steps = map (λ step. step.number) steps
 
 -- The scan of a layout, which is what a draft and a plan are made of.
 abbrev pub scan_of : Layout → Scan
@@ -21,7 +15,8 @@ scan_of layout =
       z = layout.z.edges.items;
       column = layout.column.edges.items;
       row = layout.row.edges.items;
-      steps = numbers layout.views.items;
+      directions = layout.directions.items;
+      steps = layout.steps.items;
     }
 
 -- The scan of a draft.

@@ -1,10 +1,11 @@
 -- A scan, which is what a draft and a plan hold, and its numbers of cells.
 use Rattle.std.specs.Prelude.{ℕ, ◌*◌, List, [], ◌∷◌, ◌++◌, length, ℤ}
+use Rattle.geometry.specs.declared.heading.Heading.{Heading}
 use Rattle.scan.specs.Axes.{cells_of}
 use Rattle.scan.specs.declared.scan_axis.ScanAxis.{ScanAxis}
 use Rattle.scan.specs.declared.scan_axis.ScanAxis.TheVariants.{X, Y, Z, Column, Row}
 
--- A scan: the distances D and F from the source to the rotation axis and to the panel, the edges of the volume along x, y and z and of the panel's columns and rows, and the step of each view.
+-- A scan: the distances D and F from the source to the rotation axis and to the panel, the edges of the volume along x, y and z and of the panel's columns and rows, the list of directions, which is empty where the turn table serves, and the step of each view.
 pub record Scan : Type 0 where
   pub source : ℤ
   pub panel : ℤ
@@ -13,12 +14,28 @@ pub record Scan : Type 0 where
   pub z : List ℤ
   pub column : List ℤ
   pub row : List ℤ
+  pub directions : List Heading
   pub steps : List ℕ
 
--- A scan that has no views yet.
+-- A scan that has no views yet, and the directions of the turn table.
 abbrev pub without_views : ℤ → ℤ → List ℤ → List ℤ → List ℤ → List ℤ → List ℤ → Scan
 without_views source panel x y z column row =
-    record { source = source; panel = panel; x = x; y = y; z = z; column = column; row = row; steps = [] }
+    record { source = source; panel = panel; x = x; y = y; z = z; column = column; row = row; directions = []; steps = [] }
+
+-- A scan with a list of directions in place of its own.
+abbrev pub with_directions : Scan → List Heading → Scan
+with_directions scan directions =
+    record {
+      source = scan.source;
+      panel = scan.panel;
+      x = scan.x;
+      y = scan.y;
+      z = scan.z;
+      column = scan.column;
+      row = scan.row;
+      directions = directions;
+      steps = scan.steps;
+    }
 
 -- A scan with more views at its end, of these steps.
 abbrev pub with_views : Scan → List ℕ → Scan
@@ -31,6 +48,7 @@ with_views scan steps =
       z = scan.z;
       column = scan.column;
       row = scan.row;
+      directions = scan.directions;
       steps = scan.steps ++ steps;
     }
 

@@ -7,7 +7,7 @@ use Rattle.geometry.specs.Directions.{slab_axis, main_of, side_of}
 use Rattle.scan.specs.Axes.{edge_of}
 use Rattle.scan.specs.Landing.{Landing, Sound}
 use Rattle.scan.specs.Scans.{Scan}
-use Rattle.scan.specs.Views.{cross_edges, slab_sum_of, column_sum_of, step_of, landing, weight_of}
+use Rattle.scan.specs.Views.{cross_edges, slab_sum_of, column_sum_of, heading_of, landing, weight_of}
 
 -- The four fractions can be worked out: their divisors are not zero, and their numerators lie from -2^62 to 2^62.
 pub record SafeDivisions (scan : Scan) (along : SlabAxis) (a b : ℤ) : Type 0 where
@@ -35,8 +35,8 @@ pub record ViewFacts (scan : Scan) (v : ℕ) : Type 0 where
   pub sound : Sound (landing scan v)
   pub nearest : RoundsToNearest
   pub odd : RoundsOddly
-  pub mirror_images : MirrorImages scan (side_of (step_of scan v)) (landing scan v)
-  pub safe : SafeDivisions scan (slab_axis (step_of scan v)) (main_of (step_of scan v)) (side_of (step_of scan v))
-  pub S_rises : pos 0 <ℤ main_of (step_of scan v) → (k : ℕ) → (landing scan v).S k ≤ℤ (landing scan v).S (k + 1)
-  pub S_falls : main_of (step_of scan v) <ℤ pos 0 → (k : ℕ) → (landing scan v).S (k + 1) ≤ℤ (landing scan v).S k
+  pub mirror_images : MirrorImages scan (side_of (heading_of scan v)) (landing scan v)
+  pub safe : SafeDivisions scan (slab_axis (heading_of scan v)) (main_of (heading_of scan v)) (side_of (heading_of scan v))
+  pub S_rises : pos 0 <ℤ main_of (heading_of scan v) → (k : ℕ) → (landing scan v).S k ≤ℤ (landing scan v).S (k + 1)
+  pub S_falls : main_of (heading_of scan v) <ℤ pos 0 → (k : ℕ) → (landing scan v).S (k + 1) ≤ℤ (landing scan v).S k
   pub light : (x c : ℕ) → weight_of scan v x c < 2 ^ 52

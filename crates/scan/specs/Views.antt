@@ -3,9 +3,11 @@ use Rattle.std.specs.Prelude.{ℕ, List, ℤ, ◌+ℤ◌, slice_index}
 use Rattle.geometry.specs.Landed.{slab_sum, cross_edge, height_edge, column_edge, row_edge}
 use Rattle.geometry.specs.Directions.{slab_axis, main_of, side_of}
 use Rattle.geometry.specs.declared.direction.SlabAxis.{SlabAxis}
+use Rattle.geometry.specs.declared.heading.Heading.{Heading}
 use Rattle.scan.specs.Axes.{cells_of, edge_of, low_of, high_of}
 use Rattle.scan.specs.Landing.{Landing, by_slabs, weight}
 use Rattle.scan.specs.Scans.{Scan}
+use Rattle.scan.specs.Turning.{heading_at}
 
 -- The edges of the slab axis.
 abbrev pub slab_edges : Scan → SlabAxis → List ℤ
@@ -43,9 +45,13 @@ landing_of scan along a b =
 abbrev pub step_of : Scan → ℕ → ℕ
 step_of scan v = slice_index scan.steps v
 
--- Where the edges of view v land: from the direction of its step.
+-- The heading of view v: that of its step.
+abbrev pub heading_of : Scan → ℕ → Heading
+heading_of scan v = heading_at scan.directions (step_of scan v)
+
+-- Where the edges of view v land: from the direction of its heading.
 unfoldable pub landing : Scan → ℕ → Landing
-landing scan v = landing_of scan (slab_axis (step_of scan v)) (main_of (step_of scan v)) (side_of (step_of scan v))
+landing scan v = landing_of scan (slab_axis (heading_of scan v)) (main_of (heading_of scan v)) (side_of (heading_of scan v))
 
 -- The weight in view v of the voxel at place x and the view's cell at place c.
 abbrev pub weight_of : Scan → ℕ → ℕ → ℕ → ℕ

@@ -1,5 +1,5 @@
 // The checks that a draft and its views pass.
-ghost use Rattle.std.specs.Prelude.{◌≡◌, unsigned_abs};
+ghost use Rattle.std.specs.Prelude.{◌≡◌, ◌<◌, ◌≤◌, unsigned_abs};
 ghost use Rattle.scan.specs.Verdicts.{Verdict};
 ghost use Rattle.scan.specs.Axes.{greatest};
 ghost use Rattle.scan.specs.DraftChecks.{first_beyond, distances_check, clearance_check, view_check};
@@ -9,7 +9,6 @@ use crate::axis::Axis;
 use crate::plan::MOST_VIEWS;
 use crate::refusal::Refusal;
 use geometry::distances::{Distances, FARTHEST_PANEL, FARTHEST_SOURCE};
-use geometry::step::Step;
 
 /// The distances D, from the source to the rotation axis, and F, from the source to the panel, in the user's unit. Checks 6
 /// for D, 6 for F, by `distances_check` of specs/DraftChecks.
@@ -94,13 +93,17 @@ fn check_clearance<X: Axis, Y: Axis, C: Axis>(
     Ok(())
 }
 
-// Refuses a step outside 0 to 63 (9), and then a view more than a draft may have (21).
-pub(crate) fn check_view(views: usize, step: i32) -> Result<Step, Refusal>
-    ensures { Verdict (view_check views step) (λ s. s.number ≡ unsigned_abs step) result }
+// Refuses a step that is none of so many directions (9), and then a view more than a draft may have (21).
+pub(crate) fn check_view(views: usize, directions: usize, step: i32) -> Result<u16, Refusal>
+    requires { directions ≤ 1024 }
+    ensures { Verdict (view_check views directions step) (λ s. (s ≡ unsigned_abs step) × (s < directions)) result }
 {
-    let step = Step::try_from(step)?;
+    if !(0..directions as i32).contains(&step) {
+        let step = i64::from(step);
+        return Err(Refusal::StepOutOfRange { step, directions });
+    }
     if MOST_VIEWS <= views {
         return Err(Refusal::DraftFull { views });
     }
-    Ok(step)
+    Ok(step as u16)
 }

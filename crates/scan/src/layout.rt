@@ -2,12 +2,14 @@
 ghost use Rattle.std.specs.Prelude.{◌≤◌};
 ghost use Rattle.arrayvec.specs.ArrayVec.{array_vec_len};
 ghost use Rattle.scan.specs.Limits.{SourceClear, ColumnsNearer};
+ghost use Rattle.scan.specs.Turning.{Turning, StepsKnown};
 
+use crate::directions::MOST_DIRECTIONS;
 use crate::listed::ListedAxis;
 use crate::plan::MOST_VIEWS;
 use arrayvec::ArrayVec;
 use geometry::distances::Distances;
-use geometry::step::Step;
+use geometry::heading::Heading;
 
 #[derive(Drop)]
 pub(crate) struct Layout {
@@ -17,8 +19,13 @@ pub(crate) struct Layout {
     pub(crate) z: ListedAxis,
     pub(crate) column: ListedAxis,
     pub(crate) row: ListedAxis,
-    pub(crate) views: ArrayVec<Step, MOST_VIEWS>,
+    // Empty where the turn table serves.
+    pub(crate) directions: ArrayVec<Heading, MOST_DIRECTIONS>,
+    // The step of each view, in two bytes, since they lie in the plan itself.
+    pub(crate) steps: ArrayVec<u16, MOST_VIEWS>,
     ghost clear: { SourceClear distances.source x.edges.items y.edges.items },
     ghost nearer: { ColumnsNearer distances.panel column.edges.items },
-    ghost few: { array_vec_len views ≤ 1024 },
+    ghost turning: { Turning directions.items },
+    ghost known: { StepsKnown directions.items steps.items },
+    ghost few: { array_vec_len steps ≤ 1024 },
 }

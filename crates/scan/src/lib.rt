@@ -3,6 +3,7 @@
 
 pub mod accepted;
 pub mod axis;
+pub mod directions;
 pub mod draft;
 pub mod draft_checks;
 pub mod edges;

@@ -4,7 +4,9 @@ ghost use Rattle.scan.specs.Refusals.{number, place, refusal_text};
 ghost use Rattle.scan.specs.declared.refusal.Refusal.TheVariants.{StepOutOfRange};
 
 use crate::scan_axis::ScanAxis;
+use geometry::heading::Heading;
 use geometry::no_step::NoStep;
+use geometry::step::STEPS;
 use std::error::Error;
 use std::fmt;
 
@@ -24,6 +26,11 @@ pub enum Refusal {
         found: usize,
         least: usize,
         most: usize,
+    },
+    /// A count lies within its limits, but is no multiple of the unit, so many numbers that go together.
+    NotMultiple {
+        found: usize,
+        unit: usize,
     },
     /// An edge does not rise above its neighbour before it.
     NotRising {
@@ -56,9 +63,15 @@ pub enum Refusal {
         at: i64,
         panel: i64,
     },
-    /// A step lies outside 0 to 63.
+    /// A step is none of so many directions, which are numbered from 0.
     StepOutOfRange {
         step: i64,
+        directions: usize,
+    },
+    /// c² + s² of a direction differs from 2^28 by more than 32,768.
+    OffCircle {
+        direction: usize,
+        heading: Heading,
     },
     /// The draft has all the views that it may have.
     DraftFull {
@@ -90,13 +103,14 @@ impl Refusal {
         ensures { result ≡ number self.now }
     {
         match self {
-            Refusal::Count { .. } => 2,
+            Refusal::Count { .. } | Refusal::NotMultiple { .. } => 2,
             Refusal::NotRising { .. } => 4,
             Refusal::OutOfRange { .. } => 5,
             Refusal::SourceDistance { .. } | Refusal::PanelDistance { .. } => 6,
             Refusal::SourceTooNear { .. } => 7,
             Refusal::ColumnBeyond { .. } => 8,
             Refusal::StepOutOfRange { .. } => 9,
+            Refusal::OffCircle { .. } => 11,
             Refusal::DraftFull { .. } => 21,
             Refusal::NoView { .. } => 22,
             Refusal::StoreLength { .. } => 23,
@@ -115,9 +129,11 @@ impl Refusal {
             | Refusal::ColumnBeyond { edge, .. } => *edge,
             Refusal::PanelDistance { .. } => 1,
             Refusal::Count { .. }
+            | Refusal::NotMultiple { .. }
             | Refusal::SourceDistance { .. }
             | Refusal::SourceTooNear { .. }
             | Refusal::StepOutOfRange { .. }
+            | Refusal::OffCircle { .. }
             | Refusal::DraftFull { .. }
             | Refusal::NoView { .. }
             | Refusal::StoreLength { .. }
@@ -127,11 +143,12 @@ impl Refusal {
 }
 
 impl From<NoStep> for Refusal {
-    ghost from_gives = { λ e r. r ≡ StepOutOfRange e.number };
+    ghost from_gives = { λ e r. r ≡ StepOutOfRange e.number 64 };
 
     fn from(e: NoStep) -> Refusal {
         Refusal::StepOutOfRange {
             step: i64::from(e.number),
+            directions: STEPS,
         }
     }
 }

@@ -14,7 +14,6 @@ use crate::plan::Plan;
 use crate::scan_axis::ScanAxis;
 use geometry::direction::{Direction, SlabAxis};
 use geometry::landed::Pose;
-use geometry::turn::direction;
 
 /// A plan, and the direction of one of its views.
 #[derive(Clone, Copy)]
@@ -29,10 +28,12 @@ impl Plan {
     pub fn view(&self, view: usize) -> Option<View<'_>>
         ensures { elim result [ Some w ↦ (view < length (plan_of self.now).steps) × (⟦<View<'static> as Landed>⟧.landing w ≡ landing (plan_of self.now) view) × ViewFacts (plan_of self.now) view | None ↦ length (plan_of self.now).steps ≤ view ] }
     {
-        let step = *self.layout.views.get(view)?;
+        let step = *self.layout.steps.get(view)?;
+        let heading = self.layout.heading(step);
         Some(View {
             plan: self,
-            direction: direction(step),
+            // Every heading of a plan is accepted.
+            direction: heading.direction().unwrap(),
         })
     }
 }

@@ -1,0 +1,62 @@
+// The heading of a view: its direction as a cosine and a sine.
+ghost use Rattle.std.specs.Prelude.{◌≡◌};
+ghost use Rattle.geometry.specs.Circle.{off_circle, is_accepted};
+ghost use Rattle.geometry.specs.Directions.{DirectionOf};
+
+use crate::direction::{Direction, SlabAxis};
+
+// The square of the unit of sines and cosines, 2^28.
+const CIRCLE: u64 = 268_435_456;
+
+// By how much c² + s² of an accepted heading may differ from it.
+const MOST_OFF_CIRCLE: u64 = 32_768;
+
+/// The cosine c and the sine s of a direction, counted counter-clockwise from the y axis, in 16384ths: any two numbers. Of a
+/// list that someone measured, nothing is known until `is_accepted` says that c² + s² lies near 2^28.
+#[derive(Clone, Copy, PartialEq, Eq, Debug, Default)]
+pub struct Heading {
+    pub c: i32,
+    pub s: i32,
+}
+
+impl Heading {
+    // By how much c² + s² differs from 2^28. The squares are of sizes, since those of c = s = −2^31 add up to 2^63.
+    fn off_circle(self) -> u64
+        ensures { result ≡ off_circle self.s self.c }
+    {
+        let c = u64::from(self.c.unsigned_abs());
+        let s = u64::from(self.s.unsigned_abs());
+        (c * c + s * s).abs_diff(CIRCLE)
+    }
+
+    /// Whether c² + s² differs from 2^28 by at most 32,768. Defined by `is_accepted` of specs/Circle.
+    pub fn is_accepted(self) -> bool
+        ensures { result ≡ is_accepted self }
+    {
+        self.off_circle() <= MOST_OFF_CIRCLE
+    }
+
+    /// The direction of an accepted heading: its slab axis, and the a and b that go with it, in 16384ths; none of another.
+    /// Defined by `slab_axis`, `main_of` and `side_of` of specs/Directions.
+    pub fn direction(self) -> Option<Direction>
+        ensures { DirectionOf self result }
+    {
+        if !self.is_accepted() {
+            return None;
+        }
+        let (s, c) = (i64::from(self.s), i64::from(self.c));
+        if s.unsigned_abs() <= c.unsigned_abs() {
+            Some(Direction {
+                slabs: SlabAxis::Y,
+                a: c,
+                b: s,
+            })
+        } else {
+            Some(Direction {
+                slabs: SlabAxis::X,
+                a: s,
+                b: -c,
+            })
+        }
+    }
+}

@@ -1,6 +1,0 @@
-use Rattle.std.proofs.Common.{refl}
-use Rattle.scan.proofs.accepted.Accepted.draft.Goals as goal
-
-pub returns : goal.returns
-returns g c =
-    rw (c.copy_of.ensures, c.copy_of-2.ensures, c.copy_of-3.ensures, c.copy_of-4.ensures, c.copy_of-5.ensures, c.new.ensures) refl
