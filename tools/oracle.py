@@ -9,6 +9,7 @@ every cell, in exact whole numbers; each landed edge is rounded from its exact f
 import random
 from fractions import Fraction
 from functools import cache
+from math import isqrt
 
 R = 16384
 SINES = [0, 1606, 3196, 4756, 6270, 7723, 9102, 10394, 11585, 12665, 13623, 14449, 15137, 15679, 16069, 16305, 16384]
@@ -56,6 +57,16 @@ def heading(q):
     return [(up, down), (down, -up), (-up, -down), (-down, up)][h]
 
 
+def is_accepted(c, s):  # as a direction of a list
+    return abs(c * c + s * s - 2**28) <= 32768
+
+
+def list_refusal(directions):  # number and place, and what is known of it, or none
+    if not 1 <= len(directions) <= 1024:
+        return 2, 0, len(directions)
+    return next(((11, 0, d, pair) for d, pair in enumerate(directions) if not is_accepted(*pair)), None)
+
+
 def overlap(p0, p1, q0, q1):
     return max(0, min(max(p0, p1), max(q0, q1)) - max(min(p0, p1), min(q0, q1)))
 
@@ -63,7 +74,7 @@ def overlap(p0, p1, q0, q1):
 class View:
     def __init__(self, plan, step):
         self.plan = plan
-        s, c = heading(step)
+        c, s = plan.direction(step)
         self.slabs_along_y = abs(c) >= abs(s)
         self.a, self.b = (c, s) if self.slabs_along_y else (s, -c)
 
@@ -96,12 +107,16 @@ class View:
 
 
 class Plan:
-    def __init__(self, D, F, x, y, z, column, row, steps):
+    def __init__(self, D, F, x, y, z, column, row, steps, directions=None):  # none is the turn table
         self.D, self.F, self.x, self.y, self.z, self.column, self.row = D, F, x, y, z, column, row
+        self.directions = directions
         self.nx, self.ny, self.nz = len(x) - 1, len(y) - 1, len(z) - 1
         self.columns, self.rows = len(column) - 1, len(row) - 1
         self.views = [View(self, step) for step in steps]
         self.steps = steps
+
+    def direction(self, step):  # c and s
+        return heading(step)[::-1] if self.directions is None else self.directions[step]
 
     def voxels(self):  # place and numbers
         return [((l * self.ny + j) * self.nx + i, i, j, l)
@@ -111,14 +126,21 @@ class Plan:
         return [((v * self.rows + m) * self.columns + k, m, k)
                 for m in range(self.rows) for k in range(self.columns)]
 
-    def refusal(self):  # of a draft whose axes are in order: number and place, or none
+    def refusal(self):  # of a draft whose axes are in order: number and place, for a list what is known too, or none
         if not 1 <= self.D <= 2**24:
             return 6, 0
         if not self.D <= self.F <= 2**25:
             return 6, 1
         if self.D <= 2 * max(abs(e) for e in self.x + self.y):
             return 7, 0
-        return next(((8, k) for k, e in enumerate(self.column) if abs(e) >= self.F), None)
+        for k, e in enumerate(self.column):
+            if abs(e) >= self.F:
+                return 8, k
+        return None if self.directions is None else list_refusal(self.directions)
+
+    def step_refusal(self, step):  # number and place, and what is known of it, or none
+        directions = 64 if self.directions is None else len(self.directions)
+        return None if 0 <= step < directions else (9, 0, step, directions)
 
 
 # Sweeps.
@@ -260,42 +282,65 @@ def check_mirrors(plan, view, slabs):
         check(mirrored_edges(plan.column, view.S), "S mirrors the columns")
 
 
-def check_plan(name, plan):
-    check(plan.refusal() is None, name + " is admitted")
+def check_directions(plan):  # of the turn table, which every plan may have, and of the plan's own views
+    for up, down in zip(SINES, reversed(SINES), strict=True):
+        check(abs(up * up + down * down - 2**28) <= 17126, "circle rule of the entries")
     for q in range(64):
         s, c = heading(q)
         check(abs(c * c + s * s - 2**28) <= 17126, "circle rule")
+        check(is_accepted(c, s), "directions of the turn table are accepted")
+    for step, view in zip(plan.steps, plan.views, strict=True):
+        check(plan.step_refusal(step) is None, "steps are places in the list")
+        check(11585 <= abs(view.a) <= 16384 and abs(view.b) <= abs(view.a), "a and b keep their bounds")
+
+
+def check_columns(plan, view):
+    S = [view.S(k) for k in range(plan.columns + 1)]
+    check(S == sorted(S, reverse=view.a < 0), "S goes one way, down when a is negative")
+    for k in range(plan.columns):
+        T = [view.T(k, m) for m in range(plan.rows + 1)]
+        check(T == sorted(T), "T never goes down")
+
+
+def check_slab(plan, view, j, crosses):
+    S = [view.S(k) for k in range(plan.columns + 1)]
+    U = [view.U(j, i) for i in range(crosses + 1)]
+    W = [view.W(j, l) for l in range(plan.nz + 1)]
+    check(U == sorted(U) and W == sorted(W), "U and W never go down")
+    check(all(abs(e) < 2**25 for e in U + W), "U and W are below 2^25")
+    for i in range(crosses):
+        parts = [overlap(U[i], U[i + 1], S[k], S[k + 1]) for k in range(plan.columns)]
+        check(sum(parts) == overlap(U[i], U[i + 1], S[0], S[-1]), "overlaps with columns add up")
+    for k in range(plan.columns):
+        T = [view.T(k, m) for m in range(plan.rows + 1)]
+        for l in range(plan.nz):
+            parts = [overlap(W[l], W[l + 1], T[m], T[m + 1]) for m in range(plan.rows)]
+            check(sum(parts) == overlap(W[l], W[l + 1], T[0], T[-1]), "overlaps with rows add up")
+
+
+def check_transpose(kind, plan, v):
+    n, places = len(plan.voxels()), len(plan.views) * plan.rows * plan.columns
+    volume = [kind.of(5 * p * p - 7) for p in range(n)]
+    test = [kind.of(3 * c - 4) for c in range(places)]
+    f = kind.of(-3)
+    mine = [c for c, m, k in plan.cells(v)]
+    there = forward(kind, plan, v, f, volume, [kind.zero] * places)
+    here = back(kind, plan, v, f, [kind.zero] * n, test)
+    check(inner(kind, [there[c] for c in mine], [test[c] for c in mine]) == inner(kind, volume, here),
+          "forward and back are transposes")
+
+
+def check_plan(name, plan):
+    check(plan.refusal() is None, name + " is admitted")
+    check_directions(plan)
     for v, view in enumerate(plan.views):
         slabs, crosses = (plan.ny, plan.nx) if view.slabs_along_y else (plan.nx, plan.ny)
-        S = [view.S(k) for k in range(plan.columns + 1)]
-        check(S == sorted(S, reverse=view.a < 0), "S goes one way, down when a is negative")
-        for k in range(plan.columns):
-            T = [view.T(k, m) for m in range(plan.rows + 1)]
-            check(T == sorted(T), "T never goes down")
+        check_columns(plan, view)
         for j in range(slabs):
-            U = [view.U(j, i) for i in range(crosses + 1)]
-            W = [view.W(j, l) for l in range(plan.nz + 1)]
-            check(U == sorted(U) and W == sorted(W), "U and W never go down")
-            check(all(abs(e) < 2**25 for e in U + W), "U and W are below 2^25")
-            for i in range(crosses):
-                parts = [overlap(U[i], U[i + 1], S[k], S[k + 1]) for k in range(plan.columns)]
-                check(sum(parts) == overlap(U[i], U[i + 1], S[0], S[-1]), "overlaps with columns add up")
-            for k in range(plan.columns):
-                T = [view.T(k, m) for m in range(plan.rows + 1)]
-                for l in range(plan.nz):
-                    parts = [overlap(W[l], W[l + 1], T[m], T[m + 1]) for m in range(plan.rows)]
-                    check(sum(parts) == overlap(W[l], W[l + 1], T[0], T[-1]), "overlaps with rows add up")
+            check_slab(plan, view, j, crosses)
         check_mirrors(plan, view, slabs)
         for kind in (Count, Pair, Reach):
-            n, places = len(plan.voxels()), len(plan.views) * plan.rows * plan.columns
-            volume = [kind.of(5 * p * p - 7) for p in range(n)]
-            test = [kind.of(3 * c - 4) for c in range(places)]
-            f = kind.of(-3)
-            mine = [c for c, m, k in plan.cells(v)]
-            there = forward(kind, plan, v, f, volume, [kind.zero] * places)
-            here = back(kind, plan, v, f, [kind.zero] * n, test)
-            check(inner(kind, [there[c] for c in mine], [test[c] for c in mine]) == inner(kind, volume, here),
-                  "forward and back are transposes")
+            check_transpose(kind, plan, v)
         for p, i, j, l in plan.voxels():
             for c, m, k in plan.cells(v):
                 check(view.weight(i, j, l, m, k) < 2**52, "weights are below 2^52")
@@ -409,6 +454,80 @@ def halves():
         numbers("step %d column 0 T" % step, [view.T(0, m) for m in range(4)])
 
 
+THREE = [(16384, 0), (16069, 3196), (14189, 8192)]  # at 0, 11.25 and 30 degrees
+
+
+def three_directions():
+    plan = Plan(D=1000, F=2000, **SMALL, steps=[0, 1, 2], directions=THREE)
+    check_plan("directions", plan)
+    print("case directions: small plan, a list of three at 0, 11.25 and 30 degrees, steps 0 1 2")
+    numbers("list", THREE)
+    for v, view in enumerate(plan.views):
+        numbers("view %d a b" % v, [view.a, view.b])
+        numbers("view %d slab 1 U" % v, [view.U(1, i) for i in range(3)])
+        numbers("view %d slab 1 W" % v, [view.W(1, l) for l in range(2)])
+        numbers("view %d S" % v, [view.S(k) for k in range(3)])
+    working, hit = [0] * 6, [False] * 4
+    for v in range(3):
+        working = forward(Count, plan, v, 1, [1] * 4, working)
+        hit = back(Reach, plan, v, True, hit, [True, False] * 3)
+    line("forward of ones onto zeros, the three views in turn", Count, working)
+    for v in range(3):
+        line("back of ones of view %d onto zeros" % v, Count, back(Count, plan, v, 1, [0] * 4, [1] * 6))
+    line("back of Reach from the first column of the three views", Reach, hit)
+    numbers("tally", [sum(hit)])
+
+
+def ends(a):  # of the b from 0 to a that are accepted with a: the least and the greatest
+    taken = [b for b in range(a + 1) if is_accepted(a, b)]
+    return taken[0], taken[-1]
+
+
+def ties_and_quarters():
+    most = ends(16384)[1]
+    # With |a| at its least, 11,585, b can be a or -a alone: the ties are that end.
+    check(ends(11585) == (11585, 11585), "only ties have the least |a|")
+    ties = [(11585, 11585), (-11585, 11585), (-11585, -11585), (11585, -11585)]
+    pairs = ties + [(11586, 11584), (11584, 11586), (16384, most), (most, -16384)]
+    plan = Plan(D=1000, F=2000, **UNEVEN, steps=list(range(8)), directions=pairs)
+    check_plan("ties and quarters", plan)
+    print("case directions at ties and quarters: uneven plan, a list of 8, steps in its order, factor 1")
+    for a in (11585, 11586, 16384):
+        numbers("least and greatest |b| accepted with |a| %d" % a, ends(a))
+    numbers("list", pairs)
+    volume = [p * p + 1 for p in range(12)]
+    for v, view in enumerate(plan.views):
+        numbers("view %d a b" % v, [view.a, view.b])
+        print("view %d slabs: %s" % (v, "y" if view.slabs_along_y else "x"))
+        numbers("view %d S" % v, [view.S(k) for k in range(4)])
+        working = forward(Count, plan, v, 1, volume, [0] * 48)
+        cells = [working[c] for c, m, k in plan.cells(v)]
+        line("view %d forward of the volume onto zeros, its cells" % v, Count, cells)
+
+
+def landed(plan, view):  # every landed edge of a view
+    slabs, crosses = (plan.ny, plan.nx) if view.slabs_along_y else (plan.nx, plan.ny)
+    return ([[view.U(j, i) for i in range(crosses + 1)] for j in range(slabs)],
+            [[view.W(j, l) for l in range(plan.nz + 1)] for j in range(slabs)],
+            [view.S(k) for k in range(plan.columns + 1)],
+            [[view.T(k, m) for m in range(plan.rows + 1)] for k in range(plan.columns)])
+
+
+def turntable():
+    steps = list(range(64))
+    table = [(c, s) for s, c in map(heading, steps)]
+    told = 0
+    for axes in (SMALL, UNEVEN):
+        plan = Plan(D=1000, F=2000, **axes, steps=steps)
+        listed = Plan(D=1000, F=2000, **axes, steps=steps, directions=table)
+        check(listed.refusal() is None, "the turn table is accepted as a list")
+        for one, other in zip(plan.views, listed.views, strict=True):
+            check((one.a, one.b, one.slabs_along_y) == (other.a, other.b, other.slabs_along_y), "a list of the table")
+            check(landed(plan, one) == landed(listed, other), "a list of the table lands edges as the table does")
+            told += 1
+    print("case turntable: views whose U, W, S and T are the same from the table as from a list of it: %d" % told)
+
+
 def wide():
     plan = Plan(D=1000, F=2000, **dict(UNEVEN, column=list(range(-180, 181, 20))), steps=[40])
     check_plan("wide", plan)
@@ -475,6 +594,80 @@ def refused_calls():
         print("row, %s: %s" % (lengths, refusal(plan, ("run",), lengths)))
 
 
+def pair_of(total):  # c and s whose squares come to it, or none
+    for c in range(isqrt(total) + 1):
+        s = isqrt(total - c * c)
+        if c * c + s * s == total:
+            return c, s
+    return None
+
+
+def sums_at_limits():  # on each side of each limit the nearest sum that some pair has, with a pair of it
+    found = []
+    for beyond, way in ((-32769, -1), (-32768, 1), (32768, -1), (32769, 1)):
+        while pair_of(2**28 + beyond) is None:
+            beyond += way
+        found.append((beyond, pair_of(2**28 + beyond)))
+    return found
+
+
+def refused_directions():
+    print("case refusals of directions: small plan; number, place, and the length, or which direction and its pair")
+    good, bad = (16384, 0), (16385, 0)
+
+    def tell(name, pairs, **other):
+        plan = Plan(**dict(dict(SMALL, D=1000, F=2000), **other), steps=[], directions=pairs)
+        print("%s: %s" % (name, plan.refusal()))
+
+    tell("no pair", [])
+    for length in (1, 1024, 1025):
+        tell("%d times %s" % (length, good), [good] * length)
+    for beyond, pair in sums_at_limits():
+        tell("%s, sum 2^28 %+d" % (pair, beyond), [pair])
+    for pair in (bad, (0, 0)):
+        tell("%s" % (pair,), [pair])
+    tell("both -2^31", [(-2**31, -2**31)])
+    tell("a sum that is 2^28 modulo 2^32", [(278528, 0)])
+    tell("%s, then two that are not accepted" % (good,), [good, bad, (0, 0)])
+    tell("1023 times %s, then %s" % (good, bad), [good] * 1023 + [bad])
+    tell("1025 pairs, the first not accepted", [bad] + [good] * 1024)
+    for other in (dict(D=0), dict(F=999), dict(D=200), dict(column=[-200, 0, 2000])):
+        what = ", ".join("%s %s" % each for each in other.items())
+        tell("no pair, " + what, [], **other)
+        tell("%s, %s" % (bad, what), [bad], **other)
+    for name, pairs in (("a list of three", THREE), ("the turn table", None)):
+        plan = Plan(D=1000, F=2000, **SMALL, steps=[], directions=pairs)
+        for step in (0, 2, 3, -1, 63, 64):
+            print("step %d of %s: %s" % (step, name, plan.step_refusal(step)))
+
+
+def six_calls(plan, lengths):  # what they leave, and both sides of the mirrored row's law for the first so many
+    outcome, refused = run(Count, plan, six(Count), stores_of(Count, START))
+    check(refused == 0, "the six calls are accepted")
+    for name, store in zip(("volume", "measured", "working"), outcome):
+        line("outcome " + name, Count, store)
+    again, refused = run(Count, plan, with_refused(Count, six(Count)), stores_of(Count, START))
+    check(again == outcome, "refused calls alter nothing")
+    numbers("refused of the row with two refused calls after each", [refused])
+    for name, kind in (("Count", Count), ("Pair", Pair), ("Reach", Reach)):
+        both_sides(name, kind, plan, lengths)
+
+
+def both_sides(name, kind, plan, lengths):
+    start, test = stores_of(kind, START), stores_of(kind, TEST)
+    for length in lengths:
+        row = with_refused(kind, six(kind))[:length]
+        there, here = sides(kind, plan, row, start, test)
+        check(there == here, "both sides are equal")
+        check(length == 0 or there != kind.zero, "they are not zero")
+        line("%s both sides of the first %d calls" % (name, length), kind, [there, here])
+    turned = [(TURNED[call[0]], *call[1:]) for call in row]
+    check(inner_of_stores(kind, start, run(kind, plan, turned, test)[0]) != there, "the order counts")
+    if kind is not Reach:
+        backwards = run(kind, plan, list(reversed(row)), test)[0]
+        check(inner_of_stores(kind, start, backwards) != there, "the turning counts")
+
+
 def rows():
     plan = Plan(D=1000, F=2000, **SMALL, steps=[0])
     print("case rows: small plan, step 0: forward and back of ones, test cells 1 0")
@@ -484,31 +677,39 @@ def rows():
     plan = Plan(D=1000, F=2000, **UNEVEN, steps=[5, 20])
     check_plan("rows", plan)
     print("case rows: uneven plan, steps 5 20, the six calls")
-    outcome, refused = run(Count, plan, six(Count), stores_of(Count, START))
-    check(refused == 0, "the six calls are accepted")
-    for name, store in zip(("volume", "measured", "working"), outcome):
-        line("outcome " + name, Count, store)
-    again, refused = run(Count, plan, with_refused(Count, six(Count)), stores_of(Count, START))
-    check(again == outcome, "refused calls alter nothing")
-    numbers("refused of the row with two refused calls after each", [refused])
-    for name, kind in (("Count", Count), ("Pair", Pair), ("Reach", Reach)):
-        start, test = stores_of(kind, START), stores_of(kind, TEST)
-        for length in (0, 1, 18):
-            row = with_refused(kind, six(kind))[:length]
-            there, here = sides(kind, plan, row, start, test)
-            check(there == here, "both sides are equal")
-            check(length == 0 or there != kind.zero, "they are not zero")
-            line("%s both sides of the first %d calls" % (name, length), kind, [there, here])
-        turned = [(TURNED[call[0]], *call[1:]) for call in row]
-        check(inner_of_stores(kind, start, run(kind, plan, turned, test)[0]) != there, "the order counts")
-        if kind is not Reach:
-            backwards = run(kind, plan, list(reversed(row)), test)[0]
-            check(inner_of_stores(kind, start, backwards) != there, "the turning counts")
+    six_calls(plan, (0, 1, 18))
+
+
+def rows_with_list():
+    pairs = [(5334, 15491), (15396, 5604)]  # at 71 and 20 degrees
+    plan = Plan(D=1000, F=2000, **UNEVEN, steps=[1, 0], directions=pairs)
+    check_plan("rows with a list", plan)
+    print("case rows with a list: uneven plan, a list of two at 71 and 20 degrees, steps 1 0, the six calls")
+    numbers("list", pairs)
+    numbers("view 1 a b", [plan.views[1].a, plan.views[1].b])
+    six_calls(plan, (1, 6, 18))
+
+
+def added(kind, a, b):
+    return tuple([kind.plus(x, y) for x, y in zip(*two)] for two in zip(a, b))
+
+
+def multiplied(kind, f, a):
+    return tuple([kind.times(f, x) for x in store] for store in a)
+
+
+def check_linear(kind, plan, row, start, other, f):
+    outcome, second = run(kind, plan, row, start)[0], run(kind, plan, row, other)[0]
+    check(run(kind, plan, row, added(kind, start, other))[0] == added(kind, outcome, second),
+          "the outcome of a sum is the sum of the outcomes")
+    check(run(kind, plan, row, multiplied(kind, f, start))[0] == multiplied(kind, f, outcome),
+          "the outcome of a multiple is the multiple of the outcome")
 
 
 def random_rows():
     rng = random.Random(1)
-    plans = [Plan(D=1000, F=2000, **SMALL, steps=[0, 20]), Plan(D=1000, F=2000, **UNEVEN, steps=[5, 20])]
+    plans = [Plan(D=1000, F=2000, **SMALL, steps=[0, 20]), Plan(D=1000, F=2000, **UNEVEN, steps=[5, 20]),
+             Plan(D=1000, F=2000, **UNEVEN, steps=[2, 0], directions=[(5334, -15491), THREE[1], (-11585, 11585)])]
 
     def number(share):  # zero but for a share
         return rng.randrange(2**64) if rng.random() < share else 0
@@ -524,12 +725,6 @@ def random_rows():
                           for n in (plan.nx, plan.ny, plan.nz)]
         return name, rng.randrange(len(plan.views) + (rng.random() < 0.2)), kind.of(number(0.9))
 
-    def added(kind, a, b):
-        return tuple([kind.plus(x, y) for x, y in zip(*two)] for two in zip(a, b))
-
-    def multiplied(kind, f, a):
-        return tuple([kind.times(f, x) for x in store] for store in a)
-
     tried = told = refusing = 0
     for kind in (Count, Pair, Reach):
         for _ in range(200):
@@ -538,31 +733,36 @@ def random_rows():
             start, other, test = [stores(kind, plan, share) for _ in range(3)]
             there, here = sides(kind, plan, row, start, test)
             check(there == here, "the mirrored row is the transpose")
-            outcome, refused = run(kind, plan, row, start)
-            second = run(kind, plan, row, other)[0]
-            check(run(kind, plan, row, added(kind, start, other))[0] == added(kind, outcome, second),
-                  "the outcome of a sum is the sum of the outcomes")
-            f = kind.of(rng.randrange(2**64))
-            check(run(kind, plan, row, multiplied(kind, f, start))[0] == multiplied(kind, f, outcome),
-                  "the outcome of a multiple is the multiple of the outcome")
+            check_linear(kind, plan, row, start, other, kind.of(rng.randrange(2**64)))
+            refused = run(kind, plan, row, start)[1]
             tried, told, refusing = tried + 1, told + (there != kind.zero), refusing + (refused > 0)
     check(2 * told > tried and 5 * refusing > tried, "random rows tell something")
     print("random rows of Count, Pair and Reach, matched and linear: %d, all equal" % tried)
 
 
-def landweber():
-    plan = Plan(D=1000, F=2000, **SMALL, steps=[0, 16])
-    print("case iteration: small plan, steps 0 16, Landweber from an image of twos, measured is the forward of ones")
-    minus = Count.of(-1)
-    shadow = run(Count, plan, [("forward", 0, 1), ("forward", 1, 1)], ([1] * 4, [0] * 4, [0] * 4))[0][2]
-    row = [(name, v, f) for name, f in (("forward", minus), ("take", 1), ("back", 1)) for v in (0, 1)]
-    (image, _, working), refused = run(Count, plan, row, ([2] * 4, shadow, [0] * 4))
+def iterate(plan):
+    views, zeros = range(len(plan.views)), [0] * (len(plan.views) * plan.rows * plan.columns)
+    shadow = run(Count, plan, [("forward", v, 1) for v in views], ([1] * 4, zeros, zeros))[0][2]
+    row = [(name, v, f) for name, f in (("forward", Count.of(-1)), ("take", 1), ("back", 1)) for v in views]
+    (image, _, working), refused = run(Count, plan, row, ([2] * 4, shadow, zeros))
     line("image", Count, image)
     line("working", Count, working)
     numbers("refused", [refused])
+
+
+def landweber():
+    plan = Plan(D=1000, F=2000, **SMALL, steps=[0, 16])
+    print("case iteration: small plan, steps 0 16, Landweber from an image of twos, measured is the forward of ones")
+    iterate(plan)
     row = [("back", v, True) for v in (0, 1)]
     (reached, _, _), _ = run(Reach, plan, row, ([False] * 4, [False] * 4, [True, False] * 2))
     line("voxels that the first column of some view reaches", Reach, reached)
+
+
+def landweber_with_list():
+    plan = Plan(D=1000, F=2000, **SMALL, steps=[0, 1, 2], directions=THREE)
+    print("case iteration with a list: small plan, the list of three, steps 0 1 2, Landweber as before")
+    iterate(plan)
 
 
 def first_cells():
@@ -579,9 +779,15 @@ x_slabs()
 uneven()
 two_more()
 halves()
+three_directions()
+ties_and_quarters()
+turntable()
 wide()
 calls()
 refused_calls()
+refused_directions()
 rows()
+rows_with_list()
 random_rows()
 landweber()
+landweber_with_list()
