@@ -3,7 +3,7 @@
 
 This program is made apart from the library and shares no code with it. It is
 written from docs/PLAN-FILES.md (the files, the checks, the lines that are
-printed) and from docs/SPECIFICATION.md (axes, steps, landed edges, weights,
+printed) and from docs/SPECIFICATION.md (axes, directions, landed edges, weights,
 kinds of value), and from nothing else. Part 1 says what `shadow` prints for
 any input: straight from the definitions, every voxel with every cell, in exact
 whole numbers. Part 2 makes several hundred inputs, some by hand and some by
@@ -36,6 +36,7 @@ import random
 import re
 import sys
 from collections import namedtuple
+from math import isqrt
 from pathlib import Path
 
 # ---------------------------------------------------------------------------
@@ -50,12 +51,25 @@ MOST_SOURCE = 2**24      # the greatest D
 MOST_PANEL = 2**25       # the greatest F
 MOST_EDGE = 4_194_304    # the greatest |edge|
 MOST_EDGES = 513         # edges of one axis
+MOST_DIRECTIONS = 1_024  # of a list; a file has two numbers for each
+MOST_OFF = 32_768        # the most that c*c + s*s may differ from R*R
 MOST_VIEWS = 1_024
-MOST_STEP = 63
 MOST_SHOWN = 4_096       # voxels, and cells over all views, that `shadow` takes
-LONGEST = 22_644         # bytes; of a longer input one byte more is read
+LONGEST = 30_840         # bytes; of a longer input one byte more is read
 
-Plan = namedtuple("Plan", "source panel x y z columns rows steps")
+# `directions` has c and s of each direction that a step can name.
+Plan = namedtuple("Plan", "source panel x y z columns rows directions steps")
+
+
+def cosine_and_sine(step):
+    """c and s of a step of the turn table."""
+    h, r = divmod(step, 16)
+    up, down = SINES[r], SINES[16 - r]
+    s, c = ((up, down), (down, -up), (-up, -down), (-down, up))[h]
+    return c, s
+
+
+TURN_TABLE = [cosine_and_sine(step) for step in range(64)]
 
 
 class Refused(Exception):
@@ -74,13 +88,16 @@ class Reader:
         self.data = data
         self.at = 0
 
-    def section(self, least, most):
-        """The next section's numbers, and the place of the first of them."""
+    def section(self, least, most, unit=1):
+        """The next section's numbers, and the place of the first of them.
+
+        Their count has to be a multiple of `unit`.
+        """
         count_at = self.at
         if len(self.data) < count_at + 4:
             raise Refused(1, count_at)
         count = int.from_bytes(self.data[count_at:count_at + 4], "little")
-        if not least <= count <= most:
+        if not least <= count <= most or count % unit > 0:
             raise Refused(2, count_at)
         first = count_at + 4
         whole = (len(self.data) - first) // 4
@@ -94,11 +111,11 @@ class Reader:
         return int.from_bytes(self.data[place:place + 4], "little", signed=True)
 
 
-def refuse_first(number, first, faults):
-    """Refuses at the first number with a fault; number 0 stands at `first`."""
+def refuse_first(number, first, faults, size=4):
+    """Refuses at the first entry with a fault; entry 0 stands at `first`, and each has `size`."""
     for i, fault in enumerate(faults):
         if fault:
-            raise Refused(number, first + 4 * i)
+            raise Refused(number, first + size * i)
 
 
 def read_distances(reader):
@@ -119,15 +136,28 @@ def read_edges(reader):
     return edges, first
 
 
-def read_steps(reader):
-    """Section 7: the steps of the views."""
+def off_circle(c, s):
+    """How much c*c + s*s differs from R*R."""
+    return abs(c * c + s * s - R * R)
+
+
+def read_directions(reader):
+    """Section 7: the directions of the list, or those of the turn table where there is none."""
+    numbers, first = reader.section(0, 2 * MOST_DIRECTIONS, unit=2)
+    directions = list(zip(numbers[::2], numbers[1::2]))
+    refuse_first(11, first, [off_circle(c, s) > MOST_OFF for c, s in directions], size=8)
+    return directions or TURN_TABLE
+
+
+def read_steps(reader, directions):
+    """Section 8: the steps of the views."""
     steps, first = reader.section(0, MOST_VIEWS)
-    refuse_first(9, first, [not 0 <= step <= MOST_STEP for step in steps])
+    refuse_first(9, first, [not 0 <= step < len(directions) for step in steps])
     return steps
 
 
 def read_plan(reader):
-    """Sections 1 to 7."""
+    """Sections 1 to 8."""
     source, panel, source_at = read_distances(reader)
     x, _ = read_edges(reader)
     y, _ = read_edges(reader)
@@ -137,7 +167,9 @@ def read_plan(reader):
     if source <= 2 * max(abs(edge) for edge in x + y):
         raise Refused(7, source_at)
     refuse_first(8, columns_at, [abs(edge) >= panel for edge in columns])
-    return Plan(source, panel, x, y, z, columns, rows, read_steps(reader))
+    directions = read_directions(reader)
+    steps = read_steps(reader, directions)
+    return Plan(source, panel, x, y, z, columns, rows, directions, steps)
 
 
 def cells_along(edges):
@@ -167,13 +199,6 @@ def read_file(data):
     return plan, values
 
 
-def sine_and_cosine(step):
-    """s and c of a step, from the turn table."""
-    h, r = divmod(step, 16)
-    up, down = SINES[r], SINES[16 - r]
-    return ((up, down), (down, -up), (-up, -down), (-down, up))[h]
-
-
 def stretches(edges):
     """Each edge with the one after it."""
     return list(zip(edges, edges[1:]))
@@ -194,7 +219,7 @@ class View:
     """One view: its stretches between landed edges, and the weights."""
 
     def __init__(self, plan, step):
-        s, c = sine_and_cosine(step)
+        c, s = plan.directions[step]
         self.slabs_of_y = abs(c) >= abs(s)
         if self.slabs_of_y:
             a, b, sign, slabs, cross = c, s, 1, plan.y, plan.x
@@ -276,9 +301,9 @@ def answer(data: bytes) -> str:
 # Part 2: making inputs
 # ---------------------------------------------------------------------------
 
-# A file to be is a list of eight lists of numbers, its sections.
-DISTANCES, X, Y, Z, COLUMNS, ROWS, STEPS, VALUES = range(8)
-NAMES = ("distances", "x", "y", "z", "columns", "rows", "steps", "values")
+# A file to be is a list of nine lists of numbers, its sections.
+DISTANCES, X, Y, Z, COLUMNS, ROWS, DIRECTIONS, STEPS, VALUES = range(9)
+NAMES = ("distances", "x", "y", "z", "columns", "rows", "directions", "steps", "values")
 AXES = (X, Y, Z, COLUMNS, ROWS)
 
 GREATEST, LEAST = 2**31 - 1, -2**31    # of the signed numbers
@@ -286,12 +311,19 @@ HUGE = 2**32 - 1                       # the greatest count
 
 # The plan of both documents' examples.
 EXAMPLE = [[1000, 2000], [-100, 0, 100], [-100, 0, 100], [-50, 50],
-           [-200, 0, 200], [-100, 100], [0, 16], [1, 1, 1, 1]]
+           [-200, 0, 200], [-100, 100], [], [0, 16], [1, 1, 1, 1]]
+
+# Their list of three directions, at 0, 11.25 and 30 degrees.
+EXAMPLE_LIST = [16384, 0, 16069, 3196, 14189, 8192]
 
 # A plan with three uneven cells along each axis and three views, so that
-# every section has a first, a middle and a last number.
+# every section but that of directions has a first, a middle and a last number.
 BASE = [[1000, 2000], [-120, -50, 10, 100], [-90, -20, 40, 110], [-60, -10, 30, 70],
-        [-250, -60, 70, 260], [-140, -30, 50, 150], [3, 16, 40], list(range(-9, 18))]
+        [-250, -60, 70, 260], [-140, -30, 50, 150], [], [3, 16, 40], list(range(-9, 18))]
+
+# The same with a list of three directions, in three quarters.
+LISTED = [*BASE[:DIRECTIONS], [-3196, 16069, 14189, -8192, -11585, -11585], [2, 0, 1],
+          BASE[VALUES]]
 
 
 def unsigned(number):
@@ -305,7 +337,7 @@ def signed(number):
 
 
 def packed(sections):
-    """The file of eight sections, or the front of a file where there are fewer."""
+    """The file of nine sections, or the front of a file where there are fewer."""
     return b"".join(unsigned(len(section)) + b"".join(map(signed, section))
                     for section in sections)
 
@@ -356,6 +388,42 @@ def around(cells, pitch=1):
     return [pitch * (i - cells // 2) for i in range(cells + 1)]
 
 
+def flat(directions):
+    """The numbers of section 7: c and s of each direction."""
+    return [number for direction in directions for number in direction]
+
+
+def beside_circle(c):
+    """The direction of this c, -R to R, with the s, not below 0, that is nearest to the circle.
+
+    A step of s by one moves c*c + s*s by 2*R at most, and the nearest is half of
+    that off at most, so it is accepted.
+    """
+    s = isqrt(R * R - c * c)
+    return c, min(s, s + 1, key=lambda number: off_circle(c, number))
+
+
+def fan(number):
+    """So many directions, no two the same; four or more of them are in all quarters."""
+    result = []
+    for i in range(number):
+        c, s = beside_circle(R - 1 - 2 * R * i // number)
+        result.append((c, s) if i % 2 == 0 else (c, -s))
+    return result
+
+
+def all_forms(c, s):
+    """The eight directions that have these two numbers, with each sign and in either order."""
+    return [(p * one, q * other) for one, other in ((c, s), (s, c))
+            for p in (1, -1) for q in (1, -1)]
+
+
+def with_direction(sections, i, direction):
+    """The sections with direction i of the list changed."""
+    c, s = direction
+    return changed(sections, (DIRECTIONS, 2 * i, c), (DIRECTIONS, 2 * i + 1, s))
+
+
 # --- cases made by hand ----------------------------------------------------
 
 # A name, an input, and the first line that the answer has to have.
@@ -395,10 +463,14 @@ def worked_cases():
                      8, COLUMNS, 2)
     yield accepted("worked-column-below-panel", changed(EXAMPLE, (COLUMNS, 2, 1999)))
     yield refused_at("worked-step-sixty-four", changed(EXAMPLE, (STEPS, 1, 64)), 9, STEPS, 1)
-    yield refused("worked-without-last-byte", data[:-1], 1, 112)
-    yield refused("worked-with-a-byte-more", data + b"\x00", 3, 116)
+    yield refused("worked-without-last-byte", data[:-1], 1, 116)
+    yield refused("worked-with-a-byte-more", data + b"\x00", 3, 120)
     yield accepted("worked-step-eight", replaced(EXAMPLE, {STEPS: [8]}))
     yield accepted("worked-step-thirty-two", replaced(EXAMPLE, {STEPS: [32]}))
+    three = replaced(EXAMPLE, {DIRECTIONS: EXAMPLE_LIST, STEPS: [0, 1, 2]})
+    yield accepted("worked-three-directions", three)
+    yield refused_at("worked-three-directions-and-step-three", changed(three, (STEPS, 2, 3)),
+                     9, STEPS, 2)
 
 
 def short_cases():
@@ -413,26 +485,46 @@ def short_cases():
     yield refused("four-bytes-high-byte-first", b"\x00\x00\x00\x02", 2, 0)
 
 
+def ends_in(sections, section, name):
+    """Refusal 1 in a section: the bytes end at its count, and at its first and last number."""
+    data, last = packed(sections), len(sections[section]) - 1
+    ends = [("count", count_place(sections, section))]
+    if last >= 0:
+        ends.append(("first-number", number_place(sections, section, 0)))
+        ends.append(("last-number", number_place(sections, section, last)))
+    for where, place in ends:
+        yield refused(f"{name}-{where}-absent", data[:place], 1, place)
+        yield refused(f"{name}-{where}-of-three-bytes", data[:place + 3], 1, place)
+
+
 def end_cases():
     """Refusal 1: the bytes end in each section, at its first and last places."""
     data = packed(BASE)
     for section, name in enumerate(NAMES):
-        count = count_place(BASE, section)
-        first = number_place(BASE, section, 0)
-        last = number_place(BASE, section, len(BASE[section]) - 1)
-        yield refused(f"{name}-count-absent", data[:count], 1, count)
-        yield refused(f"{name}-count-of-three-bytes", data[:count + 3], 1, count)
-        yield refused(f"{name}-first-number-absent", data[:first], 1, first)
-        yield refused(f"{name}-first-number-of-three-bytes", data[:first + 3], 1, first)
-        yield refused(f"{name}-last-number-absent", data[:last], 1, last)
-        yield refused(f"{name}-last-number-of-three-bytes", data[:last + 3], 1, last)
+        yield from ends_in(BASE, section, name)
     for section in AXES:
         yield refused(f"{NAMES[section]}-count-most-and-bytes-end",
                       miscounted(BASE, section, MOST_EDGES), 1, len(data))
-    yield refused("steps-count-most-and-bytes-end",
-                  miscounted(BASE, STEPS, MOST_VIEWS), 1, len(data))
-    yield refused("steps-count-most-and-bytes-end-unevenly",
-                  miscounted(BASE, STEPS, MOST_VIEWS) + b"\x00\x00", 1, len(data))
+    for section, most in ((DIRECTIONS, 2 * MOST_DIRECTIONS), (STEPS, MOST_VIEWS)):
+        name, whole_numbers = NAMES[section], miscounted(BASE, section, most)
+        yield refused(f"{name}-count-most-and-bytes-end", whole_numbers, 1, len(data))
+        yield refused(f"{name}-count-most-and-bytes-end-unevenly",
+                      whole_numbers + b"\x00\x00", 1, len(data))
+
+
+def listed_end_cases():
+    """Refusal 1 where there is a list: in each of its numbers, and in the sections after it."""
+    data = packed(LISTED)
+    for section in (DIRECTIONS, STEPS, VALUES):
+        yield from ends_in(LISTED, section, f"listed-{NAMES[section]}")
+    count = count_place(LISTED, DIRECTIONS)
+    yield refused("listed-directions-count-of-one-byte", data[:count + 1], 1, count)
+    yield refused("listed-directions-count-of-two-bytes", data[:count + 2], 1, count)
+    for i, name in enumerate(("first-c", "first-s", "middle-c", "middle-s", "last-c", "last-s")):
+        place = number_place(LISTED, DIRECTIONS, i)
+        for word, rest in (("absent", 0), ("of-one-byte", 1), ("of-two-bytes", 2),
+                           ("of-three-bytes", 3)):
+            yield refused(f"listed-directions-{name}-{word}", data[:place + rest], 1, place)
 
 
 def distance_count_cases():
@@ -463,8 +555,50 @@ def axis_count_cases():
                   2, count_place(BASE, X))
 
 
+def direction_count_cases():
+    """Refusal 2 at the count of section 7: it is odd or above the most."""
+    place = count_place(LISTED, DIRECTIONS)
+    for word, count in (("one", 1), ("three", 3), ("five", 5), ("seven", 7)):
+        numbers = flat(fan(4))[:count]
+        yield refused_at_count(f"directions-count-{word}",
+                               replaced(LISTED, {DIRECTIONS: numbers}), 2, DIRECTIONS)
+    yield refused_at_count("directions-count-above-most",
+                           replaced(EXAMPLE, {DIRECTIONS: flat(fan(1025))}), 2, DIRECTIONS)
+    for word, count in (("one", 1), ("three", 3), ("five", 5), ("seven", 7),
+                        ("below-most", 2047), ("odd-above-most", 2049), ("above-most", 2050),
+                        ("half-of-all", 2**31), ("half-of-all-and-one", 2**31 + 1),
+                        ("six-and-high-bit", 2**31 + 6), ("huge", HUGE), ("huge-even", HUGE - 1)):
+        data = miscounted(LISTED, DIRECTIONS, count)
+        yield refused(f"directions-count-{word}-alone", data, 2, place)
+        yield refused(f"directions-count-{word}-and-nothing-more", data[:place + 4], 2, place)
+    for word, count in (("two", 2), ("most", 2048)):
+        yield refused(f"directions-count-{word}-and-nothing-more",
+                      miscounted(LISTED, DIRECTIONS, count)[:place + 4], 1, place + 4)
+    for word, numbers in (("zero", [0] * 5), ("least", [LEAST] * 3), ("a-c-alone", [16385])):
+        yield refused_at_count(f"directions-count-odd-and-all-{word}",
+                               replaced(LISTED, {DIRECTIONS: numbers}), 2, DIRECTIONS)
+
+
+def direction_count_limit_cases():
+    """Counts of section 7 that are accepted, and such that say too few or too many directions."""
+    for word, number in (("one", 1), ("two", 2), ("seven", 7)):
+        yield accepted(f"directions-{word}",
+                       replaced(BASE, {DIRECTIONS: flat(fan(number)), STEPS: [0, number - 1]}))
+    yield accepted("directions-most",
+                   replaced(EXAMPLE, {DIRECTIONS: flat(fan(1024)), STEPS: [1023, 0, 512]}))
+    # The first number that is left over is taken for the count of the steps, and is too great.
+    for word, count in (("none", 0), ("one", 2), ("two", 4)):
+        start = replaced(LISTED, {DIRECTIONS: flat([(-3196, 16069), (-16384, 9), (-9, 16384)])})
+        yield refused(f"directions-count-says-{word}-of-three",
+                      miscounted(start, DIRECTIONS, count),
+                      2, number_place(start, DIRECTIONS, count))
+    # The count of the steps and the first step, 3 and 2, are taken for a direction.
+    yield refused("directions-count-says-four-of-three", miscounted(LISTED, DIRECTIONS, 8),
+                  11, number_place(LISTED, DIRECTIONS, 6))
+
+
 def step_count_cases():
-    """Refusal 2 at the count of section 7."""
+    """Refusal 2 at the count of section 8."""
     place = count_place(BASE, STEPS)
     yield refused_at_count("steps-count-above-most", replaced(BASE, {STEPS: [16] * 1025}),
                            2, STEPS)
@@ -475,7 +609,7 @@ def step_count_cases():
 
 
 def value_count_cases():
-    """Refusal 2 at the count of section 8."""
+    """Refusal 2 at the count of section 9."""
     place = count_place(BASE, VALUES)
     for word, values in (("none", []), ("one-fewer", [1] * 26), ("one-more", [1] * 28)):
         yield refused_at_count(f"values-count-{word}", replaced(BASE, {VALUES: values}),
@@ -486,14 +620,18 @@ def value_count_cases():
 
 
 def rest_cases():
-    """Refusal 3: bytes follow section 8."""
+    """Refusal 3: bytes follow section 9."""
     data = packed(BASE)
     unseen = packed(replaced(BASE, {STEPS: []}))
+    expect("whether 31,000 bytes are more than is read", 31_000 > LONGEST + 1, True)
     for word, rest in (("one-byte", b"\xff"), ("three-bytes", b"\x00\x00\x00"),
                        ("four-bytes", signed(1)), ("many-bytes", bytes(range(250)) * 4),
                        ("the-file-again", data), ("more-than-is-read", bytes(31_000))):
         yield refused(f"rest-of-{word}", data + rest, 3, len(data))
     yield refused("rest-of-one-byte-and-no-views", unseen + b"\x00", 3, len(unseen))
+    listed = packed(LISTED)
+    for word, rest in (("one-byte", b"\x00"), ("four-bytes", signed(7))):
+        yield refused(f"rest-of-{word}-and-directions", listed + rest, 3, len(listed))
 
 
 def source_cases():
@@ -631,6 +769,77 @@ def beyond_cases():
     yield accepted("rows-beyond-panel", changed(BASE, (ROWS, 0, -2000), (ROWS, 3, 2001)))
 
 
+# Directions that are not accepted. The last four would be, if only the low bits of their
+# numbers or of their squares were looked at.
+OFF = (("zero", (0, 0)), ("c-too-great", (16385, 0)), ("s-too-great", (0, -16385)),
+       ("both-too-small", (-11585, 11584)), ("both-too-great", (11586, -11586)),
+       ("both-least", (LEAST, LEAST)), ("both-greatest", (GREATEST, GREATEST)),
+       ("greatest-and-least", (GREATEST, LEAST)), ("wrapped-by-c", (65536, 16384)),
+       ("wrapped-by-s", (-16384, -65536)), ("c-wide", (16384 + 65536, 0)),
+       ("s-wide", (16384, LEAST)))
+
+
+def circle_cases():
+    """Refusal 11 at the first, the middle and the last direction."""
+    for where, i in (("first", 0), ("middle", 1), ("last", 2)):
+        for word, direction in OFF:
+            yield refused_at(f"directions-{where}-{word}", with_direction(LISTED, i, direction),
+                             11, DIRECTIONS, 2 * i)
+        for word, direction in (("on-axis", (16384, 0)), ("on-axis-behind", (-16384, 0)),
+                                ("at-tie", (11585, -11585))):
+            yield accepted(f"directions-{where}-{word}", with_direction(LISTED, i, direction))
+    zeros = [0] * 6
+    yield refused_at("directions-all-zero", replaced(LISTED, {DIRECTIONS: zeros}),
+                     11, DIRECTIONS, 0)
+    yield refused_at("directions-last-two-zero",
+                     replaced(LISTED, {DIRECTIONS: [0, 16384, *zeros[:4]]}), 11, DIRECTIONS, 2)
+    yield refused_at("directions-first-and-last-wrong",
+                     with_direction(with_direction(LISTED, 0, (1, -1)), 2, (16385, 1)),
+                     11, DIRECTIONS, 0)
+    yield refused_at("directions-only-one-wrong",
+                     replaced(BASE, {DIRECTIONS: [16384, 182], STEPS: [0]}), 11, DIRECTIONS, 0)
+    yield refused_at("directions-last-of-most-wrong",
+                     replaced(EXAMPLE, {DIRECTIONS: [*flat(fan(1023)), 16384, -182]}),
+                     11, DIRECTIONS, 2046)
+
+
+def directions_off_by(off):
+    """All c >= s >= 0 with c*c + s*s = R*R + off."""
+    total = R * R + off
+    found = [(isqrt(total - s * s), s) for s in range(isqrt(total // 2) + 1)]
+    return [(c, s) for c, s in found if c * c + s * s == total]
+
+
+def circle_limit_cases():
+    """Both sides of refusal 11's limits.
+
+    No two squares come to 32,768 above or below R*R, and none to 32,769 below it. The
+    sums nearest to the limits are 32,762 above and 32,767 below R*R on the accepted
+    side, and 32,769 above and 32,771 below it on the other.
+    """
+    for off in (*range(32_763, 32_769), *range(-32_770, -32_767)):
+        expect(f"directions with {off}", directions_off_by(off), [])
+    block = {X: [-90, -20, 70], Y: [-50, 10, 100], Z: [-30, 40], COLUMNS: [-130, 20, 170],
+             ROWS: [-60, 50]}
+    for word, off, inside in (("upper", 32_762, (14193, 8187)), ("lower", -32_767, (16383, 0)),
+                              ("axis-upper", 32_761, (16384, 181))):
+        expect(f"{inside} among directions", inside in directions_off_by(off), True)
+        yield accepted(f"directions-at-{word}-limit",
+                       filled(BASE, {**block, DIRECTIONS: flat(all_forms(*inside)),
+                                     STEPS: range(8)}, lambda place: place + 1))
+    signs = ("plus-plus", "plus-minus", "minus-plus", "minus-minus")
+    forms = (*signs, *(f"exchanged-{word}" for word in signs))
+    for word, off, outside in (("upper", 32_769, (16383, 256)), ("upper", 32_769, (11687, 11484)),
+                               ("lower", -32_771, (16382, 181)),
+                               ("lower", -32_771, (11611, 11558))):
+        expect(f"{outside} among directions", outside in directions_off_by(off), True)
+        place = "axis" if outside[0] > 12_000 else "tie"
+        for form, direction in zip(forms, all_forms(*outside)):
+            yield refused_at(f"directions-past-{word}-limit-near-{place}-{form}",
+                             replaced(EXAMPLE, {DIRECTIONS: flat([(16384, 0), direction])}),
+                             11, DIRECTIONS, 2)
+
+
 def step_cases():
     """Refusal 9 at the first, a middle and the last step."""
     wrong = (("minus-one", -1), ("sixty-four", 64), ("two-hundred-fifty-six", 256),
@@ -644,6 +853,38 @@ def step_cases():
     yield refused_at("steps-only-one-wrong", replaced(BASE, {STEPS: [64]}), 9, STEPS, 0)
     yield refused_at("steps-last-of-most-wrong", replaced(BASE, {STEPS: [0] * 1023 + [64]}),
                      9, STEPS, 1023)
+
+
+def listed_step_cases():
+    """Refusal 9 where there is a list: steps against its length."""
+    for word, number in (("one", 1), ("two", 2), ("three", 3), ("sixty-three", 63),
+                         ("sixty-four", 64), ("sixty-five", 65)):
+        start = replaced(EXAMPLE, {DIRECTIONS: flat(fan(number))})
+        yield accepted(f"steps-last-of-{word}", replaced(start, {STEPS: [number - 1, 0]}))
+        yield refused_at(f"steps-past-{word}", replaced(start, {STEPS: [0, number]}),
+                         9, STEPS, 1)
+        yield refused_at(f"steps-minus-one-of-{word}", replaced(start, {STEPS: [-1, 0]}),
+                         9, STEPS, 0)
+    most = replaced(EXAMPLE, {DIRECTIONS: flat(fan(1024))})
+    # That 1,023 is accepted is among the counts of directions.
+    yield refused_at("steps-past-most", replaced(most, {STEPS: [1023, 1024]}), 9, STEPS, 1)
+    many = replaced(EXAMPLE, {DIRECTIONS: flat(fan(65))})
+    for word, step in (("sixty-three", 63), ("sixty-four", 64)):
+        yield refused_at(f"steps-{word}-of-one",
+                         replaced(EXAMPLE, {DIRECTIONS: [0, 16384], STEPS: [step]}), 9, STEPS, 0)
+        yield accepted(f"steps-{word}-of-sixty-five", replaced(many, {STEPS: [step, step]}))
+
+
+def listed_wrong_step_cases():
+    """Refusal 9 at the first, the middle and the last step where there are three directions."""
+    for where, i in (("first", 0), ("middle", 1), ("last", 2)):
+        for word, step in (("three", 3), ("minus-one", -1), ("six", 6), ("sixty-three", 63),
+                           ("sixty-four", 64), ("high-byte", 2**24), ("greatest", GREATEST),
+                           ("least", LEAST)):
+            yield refused_at(f"listed-steps-{where}-{word}", changed(LISTED, (STEPS, i, step)),
+                             9, STEPS, i)
+        for word, step in (("zero", 0), ("two", 2)):
+            yield accepted(f"listed-steps-{where}-{word}", changed(LISTED, (STEPS, i, step)))
 
 
 def much_voxel_cases():
@@ -707,10 +948,33 @@ def much_cell_cases():
     yield refused_at_count("cells-and-voxels-too-many", both, 10, VALUES)
 
 
+def much_listed_cases():
+    """Refusal 10 where there is a list: its place is where section 9 begins."""
+    voxels = replaced(LISTED, {X: around(16), Y: around(16), Z: around(17)})
+    cells = replaced(LISTED, {COLUMNS: around(37), ROWS: around(37)})
+    for name, sections in (("voxels", voxels), ("cells", cells)):
+        data, place = packed(sections), count_place(sections, VALUES)
+        yield refused(f"{name}-too-many-after-directions", data, 10, place)
+        yield refused(f"{name}-too-many-after-directions-and-values-absent", data[:place],
+                      10, place)
+        yield refused(f"{name}-too-many-after-directions-and-steps-cut", data[:place - 1],
+                      1, place - 4)
+        yield refused_at(f"{name}-too-many-after-directions-and-step-wrong",
+                         changed(sections, (STEPS, 0, 3)), 9, STEPS, 0)
+        yield refused_at(f"{name}-too-many-and-direction-wrong",
+                         with_direction(sections, 1, (0, 0)), 11, DIRECTIONS, 2)
+        yield refused(f"{name}-too-many-and-directions-odd", miscounted(sections, DIRECTIONS, 5),
+                      2, count_place(sections, DIRECTIONS))
+    yield accepted("voxels-and-cells-few-of-many-directions",
+                   replaced(BASE, {DIRECTIONS: flat(fan(300)), STEPS: [299]}))
+
+
 def longest_cases():
     """The longest file that is accepted, and a byte more."""
+    # Each direction that is seen takes a while, so the views have 16 of the 1,024.
     longest = filled(BASE, {X: around(512), Y: around(8, 20), Z: [-60, 60], COLUMNS: [-150, 150],
-                            ROWS: around(4, 40), STEPS: [21] * MOST_VIEWS},
+                            ROWS: around(4, 40), DIRECTIONS: flat(fan(MOST_DIRECTIONS)),
+                            STEPS: [1023 - 68 * (v % 16) for v in range(MOST_VIEWS)]},
                      lambda place: place % 7 - 3)
     data = packed(longest)
     expect("length of the longest file", len(data), LONGEST)
@@ -756,6 +1020,77 @@ def order_cases():
                   miscounted(BASE, VALUES, 28) + b"\x00", 2, count_place(BASE, VALUES))
 
 
+def direction_order_cases():
+    """A wrong direction, or a wrong count of them, and a fault before or after it."""
+    wrong = with_direction(LISTED, 1, (16383, 257))
+    data, place = packed(wrong), number_place(LISTED, DIRECTIONS, 2)
+    last, end = number_place(LISTED, DIRECTIONS, 5), count_place(LISTED, STEPS)
+    yield refused("direction-wrong-and-last-s-absent", data[:last], 1, last)
+    yield refused("direction-wrong-and-last-s-cut", data[:last + 3], 1, last)
+    yield refused("direction-wrong-and-its-s-absent", data[:place + 4], 1, place + 4)
+    yield refused("direction-wrong-and-nothing-more", data[:end], 11, place)
+    yield refused("direction-wrong-and-steps-count-cut", data[:end + 2], 11, place)
+    yield refused("direction-wrong-and-steps-cut", data[:end + 6], 11, place)
+    yield refused("direction-wrong-and-steps-count-wrong", miscounted(wrong, STEPS, 1025),
+                  11, place)
+    yield refused("direction-wrong-and-values-absent", data[:count_place(wrong, VALUES)],
+                  11, place)
+    yield refused("direction-wrong-and-values-count-wrong", miscounted(wrong, VALUES, 26),
+                  11, place)
+    yield refused("direction-wrong-and-values-cut", data[:-3], 11, place)
+    yield refused("direction-wrong-and-a-byte-more", data + b"\x00", 11, place)
+    yield refused_at("direction-wrong-and-no-views", replaced(wrong, {STEPS: []}),
+                     11, DIRECTIONS, 2)
+    for i, where in enumerate(("first", "middle", "last")):
+        for word, step in (("minus-one", -1), ("three", 3)):
+            yield refused_at(f"direction-wrong-and-{where}-step-{word}",
+                             changed(wrong, (STEPS, i, step)), 11, DIRECTIONS, 2)
+    yield refused("directions-odd-and-step-wrong",
+                  miscounted(changed(LISTED, (STEPS, 0, 3)), DIRECTIONS, 5),
+                  2, count_place(LISTED, DIRECTIONS))
+
+
+def before_direction_cases():
+    """A fault of sections 1 to 6, or one of 7 and 8, comes before any of section 7."""
+    wrong, count = with_direction(LISTED, 0, (0, 0)), count_place(LISTED, DIRECTIONS)
+    for name, change, number in (
+            ("source-wrong", (DISTANCES, 0, 0), 6), ("panel-wrong", (DISTANCES, 1, 999), 6),
+            ("x-out-of-range", (X, 0, LEAST), 5), ("rows-falling", (ROWS, 3, -500), 4),
+            ("source-near", (DISTANCES, 0, 240), 7), ("columns-beyond", (COLUMNS, 3, 2000), 8)):
+        section, i, _ = change
+        both, place = changed(wrong, change), number_place(LISTED, section, i)
+        data = packed(both)
+        yield refused(f"{name}-and-direction-wrong", data, number, place)
+        yield refused(f"{name}-and-directions-odd", miscounted(both, DIRECTIONS, 5),
+                      number, place)
+        yield refused(f"{name}-and-directions-count-huge", miscounted(both, DIRECTIONS, HUGE),
+                      number, place)
+        yield refused(f"{name}-and-directions-absent", data[:count], number, place)
+        yield refused(f"{name}-and-directions-count-cut", data[:count + 1], number, place)
+        yield refused(f"{name}-and-directions-cut", data[:count + 9], number, place)
+    yield refused_at_count("rows-count-wrong-and-direction-wrong", replaced(wrong, {ROWS: [0]}),
+                           2, ROWS)
+
+
+def without_directions(sections):
+    """The sections but that of directions: a file as it was before there was one."""
+    return sections[:DIRECTIONS] + sections[STEPS:]
+
+
+def earlier_cases():
+    """Files without section 7: what was their section of steps is taken for it."""
+    yield refused("earlier-example", packed(without_directions(EXAMPLE)),
+                  11, number_place(EXAMPLE, DIRECTIONS, 0))
+    yield refused("earlier-base-with-three-steps", packed(without_directions(BASE)),
+                  2, count_place(BASE, DIRECTIONS))
+    # The section of no steps is taken for no directions, and the values for the steps.
+    unseen = replaced(BASE, {STEPS: []})
+    yield refused("earlier-base-with-no-steps", packed(without_directions(unseen)),
+                  9, number_place(unseen, STEPS, 0))
+    data = packed(without_directions(replaced(EXAMPLE, {STEPS: []})))
+    yield refused("earlier-example-with-no-steps", data, 1, len(data))
+
+
 def no_view_cases():
     """Plans of no views."""
     unseen = replaced(BASE, {STEPS: []})
@@ -789,6 +1124,63 @@ def view_cases():
     yield accepted("steps-beside-ties", replaced(BASE, {STEPS: [7, 9, 23, 25, 39, 41, 55, 57]}))
 
 
+def seen_from_all(directions, steps=None):
+    """A small plan with a list of directions, and a view from each or from these steps."""
+    steps = range(len(directions)) if steps is None else steps
+    return filled(BASE, {X: [-90, -20, 70], Y: [-50, 10, 100], Z: [-30, 40],
+                         COLUMNS: [-130, 20, 170], ROWS: [-60, 5, 50],
+                         DIRECTIONS: flat(directions), STEPS: steps}, lambda place: place + 1)
+
+
+def listed_view_cases():
+    """Views from directions of a list."""
+    yield accepted("listed-base-plan", LISTED)
+    yield accepted("directions-and-no-views", replaced(LISTED, {STEPS: []}))
+    yield accepted("directions-of-ties", seen_from_all(all_forms(11585, 11585)[:4]))
+    for word, c, s in (("a-unit-beside-ties", 11586, 11585),
+                       ("two-units-beside-ties", 11586, 11584),
+                       ("three-units-beside-ties", 11587, 11584),
+                       ("far-from-ties", 16069, 3196), ("at-thirty-degrees", 14189, 8192),
+                       ("a-unit-beside-axes", 16384, 1), ("farthest-beside-axes", 16384, 181)):
+        yield accepted(f"directions-{word}", seen_from_all(all_forms(c, s)))
+    yield accepted("directions-on-axes", seen_from_all([(R, 0), (0, R), (-R, 0), (0, -R)]))
+    yield accepted("directions-of-greatest-and-least-a",
+                   seen_from_all([(16384, 0), (11585, 11585), (0, -16384), (-11585, 11585)]))
+    pair = [(14189, 8192), (-9102, 13623)]
+    yield accepted("directions-repeated",
+                   seen_from_all([pair[0], pair[1], pair[0], pair[0], pair[1]]))
+    yield accepted("directions-repeated-and-one-used", seen_from_all([pair[0]] * 4, [2]))
+    yield accepted("directions-used-backwards", seen_from_all(fan(7), range(6, -1, -1)))
+    yield accepted("directions-some-unused", seen_from_all(fan(7), [5, 1, 5, 3]))
+    yield accepted("directions-not-one-way",
+                   seen_from_all([(16384, 0), (0, 16384), (16305, 1606), (-16305, -1606)]))
+    yield accepted("directions-many", seen_from_all(fan(90)))
+
+
+def own_table_cases():
+    """The turn table's directions as a list: the answers are those without a list."""
+    for name, turned in (("base", BASE), ("every-step", seen_from_all([], range(64)))):
+        listed = replaced(turned, {DIRECTIONS: flat(TURN_TABLE)})
+        expect(f"{name} by the table as a list", answer(packed(listed)), answer(packed(turned)))
+        yield accepted(f"directions-of-turn-table-{name}", listed)
+    yield accepted("directions-of-turn-table-backwards",
+                   seen_from_all(TURN_TABLE[::-1], [63, 0, 20, 43]))
+
+
+def far_direction_cases():
+    """The widest edges, seen from directions at the limits of what is accepted."""
+    ends = [-MOST_EDGE, 1 - MOST_EDGE, 5, MOST_EDGE - 1, MOST_EDGE]
+    directions = [(16384, 181), (-181, 16384), (-16383, 0), (11585, 11585), (-11585, 11585),
+                  (-11586, -11585), (14193, -8187), (8187, 14193)]
+    far = {X: ends, Y: ends, Z: [-MOST_EDGE, 0, MOST_EDGE], COLUMNS: ends,
+           ROWS: [-MOST_EDGE, 2, MOST_EDGE], DIRECTIONS: flat(directions),
+           STEPS: range(len(directions))}
+    for word, distances in (("nearest", [2 * MOST_EDGE + 1, 2 * MOST_EDGE + 1]),
+                            ("farthest", [MOST_SOURCE, MOST_PANEL])):
+        yield accepted(f"directions-at-limits-and-source-{word}",
+                       filled(BASE, {**far, DISTANCES: distances}))
+
+
 def axis_cases():
     """Axes and panels of many shapes."""
     yield accepted("base-plan", BASE)
@@ -815,6 +1207,10 @@ def axis_cases():
     yield accepted("voxels-of-one-unit",
                    filled(BASE, {X: around(4), Y: around(3), Z: around(2), COLUMNS: around(3, 2),
                                  ROWS: around(3, 2), DISTANCES: [5, 11], STEPS: [0, 10, 35]}))
+
+
+def far_axis_cases():
+    """The widest edges, and edges that land on halves."""
     # Thin cells at both ends: the slabs nearest to the source and farthest from it.
     ends = [-MOST_EDGE, 1 - MOST_EDGE, 5, MOST_EDGE - 1, MOST_EDGE]
     far = {DISTANCES: [2 * MOST_EDGE + 1, 2 * MOST_EDGE + 1], X: ends, Y: ends,
@@ -850,11 +1246,15 @@ def value_cases():
                    filled(BASE, cube, lambda place: (-1)**place * 0x7A3B5C00 // 2**place))
 
 
-GROUPS = (worked_cases, short_cases, end_cases, distance_count_cases, axis_count_cases,
-          step_count_cases, value_count_cases, rest_cases, source_cases, panel_cases,
-          range_cases, range_limit_cases, rise_cases, near_cases, beyond_cases, step_cases,
-          much_voxel_cases, much_cell_cases, longest_cases, order_cases, no_view_cases, view_cases,
-          axis_cases, value_cases)
+GROUPS = (worked_cases, short_cases, end_cases, listed_end_cases, distance_count_cases,
+          axis_count_cases, direction_count_cases, direction_count_limit_cases, step_count_cases,
+          value_count_cases, rest_cases, source_cases, panel_cases, range_cases,
+          range_limit_cases, rise_cases, near_cases, beyond_cases, circle_cases,
+          circle_limit_cases, step_cases, listed_step_cases, listed_wrong_step_cases,
+          much_voxel_cases, much_cell_cases, much_listed_cases, longest_cases, order_cases,
+          direction_order_cases, before_direction_cases, earlier_cases, no_view_cases, view_cases,
+          listed_view_cases, own_table_cases, far_direction_cases, axis_cases, far_axis_cases,
+          value_cases)
 
 
 # --- inputs made by chance -------------------------------------------------
@@ -863,9 +1263,9 @@ SEED = 20261127
 RANDOM_FILES = 402
 
 # Numbers at or beside a limit.
-EXTREMES = (0, 1, 2, -1, 63, 64, 256, 513, 514, 1024, 1025, MOST_EDGE, MOST_EDGE + 1, -MOST_EDGE,
-            -MOST_EDGE - 1, MOST_SOURCE, MOST_SOURCE + 1, MOST_PANEL, MOST_PANEL + 1,
-            GREATEST, LEAST)
+EXTREMES = (0, 1, 2, -1, 63, 64, 256, 513, 514, 1024, 1025, 2048, 2049, 2050, 11_585, R, R + 1,
+            -R, MOST_EDGE, MOST_EDGE + 1, -MOST_EDGE, -MOST_EDGE - 1, MOST_SOURCE,
+            MOST_SOURCE + 1, MOST_PANEL, MOST_PANEL + 1, GREATEST, LEAST)
 
 
 def rising(rng, half):
@@ -885,7 +1285,19 @@ def random_values(rng, number):
     return [rng.randrange(low, high + 1) for _ in range(number)]
 
 
-def random_sections(rng):
+def random_direction(rng):
+    """A direction beside the circle, in any quarter."""
+    c, s = beside_circle(rng.randrange(-R, R + 1))
+    return rng.choice(((c, s), (c, -s), (s, c), (-s, c)))
+
+
+def random_directions(rng):
+    """1 to 6 directions, and now and then up to 100."""
+    number = rng.randrange(1, 7) if rng.randrange(12) > 0 else rng.randrange(7, 101)
+    return [random_direction(rng) for _ in range(number)]
+
+
+def random_sections(rng, listed):
     """A file that is not refused, with a panel about as wide as the shadows."""
     half = min(MOST_EDGE, 16 + rng.randrange(1 << rng.randrange(5, 24)))
     x, y, z = rising(rng, half), rising(rng, half), rising(rng, half)
@@ -895,8 +1307,9 @@ def random_sections(rng):
     panel = rng.randrange(source, min(MOST_PANEL, 3 * source) + 1)
     shade = min(MOST_EDGE, half * panel // source)
     columns, rows = rising(rng, min(panel - 1, shade)), rising(rng, shade)
-    steps = [rng.randrange(MOST_STEP + 1) for _ in range(rng.randrange(5))]
-    sections = [[source, panel], x, y, z, columns, rows, steps, []]
+    directions = random_directions(rng) if listed else []
+    steps = [rng.randrange(len(directions or TURN_TABLE)) for _ in range(rng.randrange(5))]
+    sections = [[source, panel], x, y, z, columns, rows, flat(directions), steps, []]
     sections[VALUES] = random_values(rng, voxels_in(sections))
     return sections
 
@@ -904,7 +1317,7 @@ def random_sections(rng):
 def sections_of(data):
     """The places of the counts that data has, each with its number of whole numbers."""
     found, at = [], 0
-    while len(found) < 8 and at + 4 <= len(data):
+    while len(found) < len(NAMES) and at + 4 <= len(data):
         count = int.from_bytes(data[at:at + 4], "little")
         found.append((at, min(count, (len(data) - at - 4) // 4)))
         at += 4 + 4 * count
@@ -932,6 +1345,17 @@ def number_altered(rng, data):
     return data[:place] + unsigned(number % 2**32) + data[place + 4:]
 
 
+def view_altered(rng, data):
+    """A number of the directions or of the steps moved by one or two, or else any number altered."""
+    section = rng.choice((DIRECTIONS, STEPS))
+    for count_at, numbers in sections_of(data)[section:section + 1]:
+        if numbers > 0:
+            place = count_at + 4 + 4 * rng.randrange(numbers)
+            number = int.from_bytes(data[place:place + 4], "little") + rng.choice((-2, -1, 1, 2))
+            return data[:place] + unsigned(number % 2**32) + data[place + 4:]
+    return number_altered(rng, data)
+
+
 def distance_lowered(rng, data):
     """D or F replaced by a number below it."""
     place = rng.choice((4, 8))
@@ -940,10 +1364,10 @@ def distance_lowered(rng, data):
 
 
 def count_changed(rng, data):
-    """A count changed by one, or replaced by one beside a limit."""
+    """A count changed by one or two, or replaced by one beside a limit."""
     place, _ = rng.choice(sections_of(data))
     count = int.from_bytes(data[place:place + 4], "little")
-    count = rng.choice((count - 1, count + 1, rng.choice(EXTREMES))) % 2**32
+    count = rng.choice((count - 2, count - 1, count + 1, count + 2, rng.choice(EXTREMES))) % 2**32
     return data[:place] + unsigned(count) + data[place + 4:]
 
 
@@ -971,34 +1395,51 @@ def bytes_appended(rng, data):
     return data + bytes(rng.randrange(256) for _ in range(rng.randrange(1, 13)))
 
 
-DAMAGES = (number_replaced, number_altered, number_altered, distance_lowered, count_changed,
-           number_inserted, number_removed, bit_flipped, bit_flipped, bytes_appended)
+DAMAGES = (number_replaced, number_altered, number_altered, view_altered, view_altered,
+           distance_lowered, count_changed, number_inserted, number_removed, bit_flipped,
+           bit_flipped, bytes_appended)
 
 
-def whole(rng):
-    """A file that is not refused."""
-    return packed(random_sections(rng))
+def whole(rng, listed):
+    """A file that is not refused, with a list of directions or without one."""
+    return packed(random_sections(rng, listed))
 
 
-def cut(rng):
-    """A file cut at a random byte."""
-    data = whole(rng)
-    return data[:rng.randrange(len(data))]
+def cut(rng, listed):
+    """A file cut at a random byte, which is after the count of directions if there is a list."""
+    sections = random_sections(rng, listed)
+    data = packed(sections)
+    # Cut before that count it would have no list; the files without one are cut there.
+    least = number_place(sections, DIRECTIONS, 0) if listed else 0
+    return data[:rng.randrange(least, len(data))]
 
 
-def damaged(rng):
-    """A file damaged once or twice."""
-    data = whole(rng)
-    for _ in range(rng.randrange(1, 3)):
-        data = rng.choice(DAMAGES)(rng, data)
-    return data
+def has_list(data):
+    """Whether section 7 is where the counts before it say, and its count is not 0."""
+    return any(data[count_at:count_at + 4] != unsigned(0)
+               for count_at, _ in sections_of(data)[DIRECTIONS:STEPS])
+
+
+def damaged(rng, listed):
+    """A file damaged once or twice, and still with a list of directions where it had one."""
+    data = whole(rng, listed)
+    while True:
+        result = data
+        for _ in range(rng.randrange(1, 3)):
+            result = rng.choice(DAMAGES)(rng, result)
+        if has_list(result) or not listed:
+            return result
 
 
 def random_files():
-    """The names and bytes of all inputs made by chance: whole, cut and damaged in turn."""
+    """The names and bytes of all inputs made by chance: whole, cut and damaged in turn.
+
+    One in three of each kind has a list of directions, whatever else is done to it.
+    """
     rng = random.Random(SEED)
     for i in range(RANDOM_FILES):
-        yield f"random-{i:03}", (whole, cut, damaged)[i % 3](rng)
+        listed = i // 3 % 3 == 0
+        yield f"random-{i:03}", (whole, cut, damaged)[i % 3](rng, listed)
 
 
 # --- checks of this program ------------------------------------------------
@@ -1010,8 +1451,14 @@ EXAMPLE_FILE = bytes.fromhex("""
     02 00 00 00  CE FF FF FF  32 00 00 00
     03 00 00 00  38 FF FF FF  00 00 00 00  C8 00 00 00
     02 00 00 00  9C FF FF FF  64 00 00 00
+    00 00 00 00
     02 00 00 00  00 00 00 00  10 00 00 00
     04 00 00 00  01 00 00 00  01 00 00 00  01 00 00 00  01 00 00 00
+""")
+
+# Section 7 of the same plan with a list of three directions.
+EXAMPLE_LIST_SECTION = bytes.fromhex("""
+    06 00 00 00  00 40 00 00  00 00 00 00  C5 3E 00 00  7C 0C 00 00  6D 37 00 00  00 20 00 00
 """)
 
 EXAMPLE_ANSWER = """\
@@ -1032,18 +1479,34 @@ def expect(what, found, wanted):
 
 def check_example():
     """The example of PLAN-FILES.md, and the five refusals named after it."""
-    expect("length of the example", len(EXAMPLE_FILE), 116)
+    expect("length of the example", len(EXAMPLE_FILE), 120)
     expect("bytes of the example", packed(EXAMPLE), EXAMPLE_FILE)
-    expect("place of section 8", count_place(EXAMPLE, VALUES), 96)
+    expect("place of section 9", count_place(EXAMPLE, VALUES), 100)
     expect("the example", answer(EXAMPLE_FILE), EXAMPLE_ANSWER)
     for what, data, wanted in (
             ("D 200", packed(changed(EXAMPLE, (DISTANCES, 0, 200))), "refused 7 at 4\n"),
             ("column edge 2,000", packed(changed(EXAMPLE, (COLUMNS, 2, 2000))),
              "refused 8 at 68\n"),
-            ("step 64", packed(changed(EXAMPLE, (STEPS, 1, 64))), "refused 9 at 92\n"),
-            ("without the last byte", EXAMPLE_FILE[:-1], "refused 1 at 112\n"),
-            ("a byte more", EXAMPLE_FILE + b"\x00", "refused 3 at 116\n")):
+            ("step 64", packed(changed(EXAMPLE, (STEPS, 1, 64))), "refused 9 at 96\n"),
+            ("without the last byte", EXAMPLE_FILE[:-1], "refused 1 at 116\n"),
+            ("a byte more", EXAMPLE_FILE + b"\x00", "refused 3 at 120\n")):
         expect(what, answer(data), wanted)
+
+
+def check_example_list():
+    """The list of three directions in PLAN-FILES.md."""
+    expect("bytes of the list", packed([EXAMPLE_LIST]), EXAMPLE_LIST_SECTION)
+    expect("the list's 11.25 degrees", tuple(EXAMPLE_LIST[2:4]), TURN_TABLE[2])
+    expect("the list's 30 degrees", tuple(EXAMPLE_LIST[:3:-1]), beside_circle(R // 2))
+    three = replaced(EXAMPLE, {DIRECTIONS: EXAMPLE_LIST, STEPS: [0, 1, 2]})
+    plan, _ = read_file(packed(three))
+    expect("directions read", plan.directions, [(16384, 0), (16069, 3196), (14189, 8192)])
+    expect("the list with step 3", answer(packed(changed(three, (STEPS, 2, 3))))[:9], "refused 9")
+
+
+def check_turn_table():
+    """The circle rule of SPECIFICATION.md: how far the turn table's steps are off at most."""
+    expect("most off of the turn table", max(off_circle(c, s) for c, s in TURN_TABLE), 17_126)
 
 
 def check_figures():
@@ -1065,7 +1528,7 @@ def check_figures():
 
 
 def check_limits():
-    """The limits that SPECIFICATION.md names with its worked figures."""
+    """The limits that SPECIFICATION.md names with its worked figures and its acceptance rule."""
     for what, change, wanted in (
             ("D 201", (DISTANCES, 0, 201), "views"),
             ("column edge 1,999", (COLUMNS, 2, 1999), "views"),
@@ -1075,6 +1538,11 @@ def check_limits():
             ("edge 4,194,305", (Z, 1, 4_194_305), "refused 5")):
         found = answer(packed(changed(EXAMPLE, change)))
         expect(what, found[:len(wanted)], wanted)
+    expect("greatest sum of squares below a 11,585", 2 * 11_584**2, 268_378_112)
+    expect("least sum of squares above a 16,384", 16_385**2, 268_468_225)
+    for (c, s), wanted in (((16_384, 0), True), ((11_585, 11_585), True),
+                           ((11_584, 11_584), False), ((16_385, 0), False)):
+        expect(f"direction {c}, {s} accepted", off_circle(c, s) <= MOST_OFF, wanted)
 
 
 def check_case(case, found):
@@ -1140,7 +1608,7 @@ HEAD = """\
 # An entry is a name in brackets, the bytes of a file in hex, and the lines of its answer, each after "= ".
 # Eight digits are the four bytes of a number, low byte first; bytes that make no whole number end as a
 # shorter group. A section begins a line, with its count and 16 numbers at most, and has 16 in each line
-# below; it is as long as its count says, right or wrong. Bytes after section 8 begin a line too. Between
+# below; it is as long as its count says, right or wrong. Bytes after section 9 begin a line too. Between
 # two entries is an empty line. docs/PLAN-FILES.md says what the sections are.
 """
 LINE = 4 * 16    # the bytes of a line's numbers
@@ -1256,6 +1724,8 @@ def main(arguments):
         print("usage: plan_files.py [--write]", file=sys.stderr)
         return 2
     check_example()
+    check_example_list()
+    check_turn_table()
     check_figures()
     check_limits()
     crate = Path(__file__).resolve().parent.parent / "crates" / "plan_files"
