@@ -22,6 +22,14 @@ square_negated x = let size : nat_abs (neg_ℤ x) ≡ nat_abs x = omega (arith, 
 pub gap_is : (n m k : ℕ) → abs_diff (n + m) k ≡ nat_abs (pos n +ℤ pos m -ℤ pos k)
 gap_is n m k = omega (arith, ints)
 
+-- a number whose square is no more than 2^28 + 32,768 is no more than R
+within_root : (n : ℕ) → n * n ≤ 268468224 → n ≤ 16384
+within_root n l =
+    ⊎_elim
+    (λ (low : n < 16385). omega arith)
+    (λ (high : 16385 ≤ n). let nn : 16385 * 16385 ≤ n * n = mul-le-mul high high in absurd (omega (arith, l)))
+    (cases_lt n 16385)
+
 -- the greater part of a and b is neither small nor great where a² + b² lies near 2^28
 steep_of : (a b : ℤ) → nat_abs (a *ℤ a +ℤ b *ℤ b -ℤ pos (2 ^ 28)) ≤ 32768 → nat_abs b ≤ nat_abs a → Steep a b
 steep_of a b round side =
@@ -38,12 +46,19 @@ steep_of a b round side =
           let nn : n * n ≤ 11584 * 11584 = mul-le-mul small small in absurd (omega (arith, both.1)))
           (λ (high : 11585 ≤ n). high)
           (cases_lt n 11585);
-      most = ⊎_elim
-          (λ (low : n < 16385). omega arith)
-          (λ (high : 16385 ≤ n). let nn : 16385 * 16385 ≤ n * n = mul-le-mul high high in absurd (omega (arith, both.0)))
-          (cases_lt n 16385);
+      most = within_root n (omega (arith, both.0));
       side = side;
     }
+
+-- neither of c and s of an accepted heading is greater than R
+pub accepted_within : (h : Heading) → is_accepted h ≡ true → (nat_abs h.c ≤ 16384) × (nat_abs h.s ≤ 16384)
+unfolding off_circle
+accepted_within h accepted =
+    let near = leb-true _ 32768 accepted in
+    let c = square h.c in
+    let s = square h.s in
+    let both : nat_abs h.c * nat_abs h.c + nat_abs h.s * nat_abs h.s ≤ 268468224 = omega (arith, ints, near) in
+    (within_root (nat_abs h.c) (omega (arith, both)), within_root (nat_abs h.s) (omega (arith, both)))
 
 -- the slab axis, a and b are those of the heading h, and steep
 pub record Faces (h : Heading) (along : SlabAxis) (a b : ℤ) : Type 0 where

@@ -1,18 +1,23 @@
 -- The values of a proper scan: no check finds anything of them, and each fits 32 bits.
-use Rattle.std.specs.Prelude.{◌≡◌, ℕ, zero, suc, ◌+◌, ◌-◌, ◌^◌, ◌<◌, ◌||◌, false, List, [], ◌∷◌, map, length, ℤ, pos, ◌≤ℤ◌, None, int_lt, int_le, nat_lt, slice_index, slice_index_or, unsigned_abs}
+use Rattle.std.specs.Prelude.{◌≡◌, ℕ, zero, suc, ◌+◌, ◌-◌, ◌^◌, ◌<◌, ◌≤◌, ◌||◌, false, true, not, List, [], ◌∷◌, map, length, ℤ, pos, ◌≤ℤ◌, None, int_lt, int_le, nat_lt, slice_index, slice_index_or, unsigned_abs}
 use Rattle.std.specs.Int.{w32}
-use Rattle.std.proofs.Common.{refl, arith, ⊎_elim}
+use Rattle.std.proofs.Common.{refl, ap, arith, ⊎_elim}
 use Rattle.std.proofs.lemmas.Bool.{cases_lt, le-ltb}
 use Rattle.std.proofs.lemmas.Bool.Decides.{nat_tests}
 use Rattle.std.proofs.lemmas.Int.{ints, fits_signed_from_abs}
 use Rattle.std.proofs.lemmas.List.{get_or_past}
 use Rattle.scan.specs.Axes.{Proper}
 use Rattle.scan.specs.AxisChecks.{edge_or_zero, edges_check, first_outside, first_not_rising}
-use Rattle.scan.specs.DraftChecks.{distances_check, source_check, columns_check}
+use Rattle.geometry.specs.Circle.{is_accepted}
+use Rattle.geometry.specs.declared.heading.Heading.{Heading}
+use Rattle.geometry.proofs.Circles.{accepted_within}
+use Rattle.scan.specs.DraftChecks.{distances_check, source_check, columns_check, first_off_circle}
+use Rattle.scan.specs.Turning.{heading_or_zero, Turning}
 use Rattle.scan.specs.Limits.{SourceClear, ColumnsNearer}
 use Rattle.scan.specs.Numbered.{edge_at}
 use Rattle.scan.specs.declared.refusal.Refusal.TheVariants.{NotRising, OutOfRange}
 use Rattle.planfile.specs.FileChecks.{first_no_step}
+use Rattle.planfile.specs.Pairs.{numbers_of}
 use Rattle.planfile.proofs.Searches.{first_none_is}
 use Rattle.planfile.proofs.Nones.{none_or, none_map, none_where}
 use Rattle.planfile.proofs.SectionFacts.{Small}
@@ -46,9 +51,9 @@ step_is [] i = refl
 step_is (step ∷ steps) zero = refl
 step_is (step ∷ steps) (suc i) = step_is steps i
 
--- nothing is found of steps of the turn
-pub steps_fine : (steps : List ℕ) → ((v : ℕ) → slice_index steps v < 64) → first_no_step (map pos steps) ≡ None
-steps_fine steps below = first_none_is _ (length (map pos steps)) (λ i l. let low = below i in rw (step_is steps i) (grind (arith, ints)))
+-- nothing is found of steps of which each is one of so many directions
+pub steps_fine : (directions : ℕ) (steps : List ℕ) → ((v : ℕ) → slice_index steps v < directions) → first_no_step directions (map pos steps) ≡ None
+steps_fine directions steps below = first_none_is _ (length (map pos steps)) (λ i l. let low = below i in rw (step_is steps i) (grind (arith, ints)))
 
 -- the edges of an axis fit
 pub edges_small : (es : List ℤ) → Proper es → Small es
@@ -65,5 +70,16 @@ distances_small source panel a b c d (suc zero) = omega (arith, ints)
 distances_small source panel a b c d (suc (suc i)) = omega (arith, ints)
 
 -- the steps fit
-pub steps_small : (steps : List ℕ) → ((v : ℕ) → slice_index steps v < 64) → Small (map pos steps)
-steps_small steps below i = let low = below i in rw (step_is steps i) (omega arith)
+pub steps_small : (directions : ℕ) (steps : List ℕ) → directions ≤ 1024 → ((v : ℕ) → slice_index steps v < directions) → Small (map pos steps)
+steps_small directions steps few below i = let low = below i in rw (step_is steps i) (omega arith)
+
+-- nothing is found of a list of directions
+pub headings_fine : (hs : List Heading) → Turning hs → first_off_circle hs ≡ None
+headings_fine hs turning = first_none_is _ (length hs) (λ i l. ap not (turning.accepted i l))
+
+-- the numbers of accepted headings fit
+pub headings_small : (hs : List Heading) → ((i : ℕ) → i < length hs → is_accepted (heading_or_zero hs i) ≡ true) → Small (numbers_of hs)
+headings_small [] accepted i = omega arith
+headings_small (h ∷ hs) accepted zero = let near = accepted_within h (accepted 0 (omega arith)) in fits_signed_from_abs w32 h.c (omega (arith, near.0))
+headings_small (h ∷ hs) accepted (suc zero) = let near = accepted_within h (accepted 0 (omega arith)) in fits_signed_from_abs w32 h.s (omega (arith, near.1))
+headings_small (h ∷ hs) accepted (suc (suc i)) = headings_small hs (λ k l. accepted (suc k) (omega arith)) i

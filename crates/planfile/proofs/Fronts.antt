@@ -1,5 +1,5 @@
 -- Bytes that are the same up to a place: the same is found of them before that place.
-use Rattle.std.specs.Prelude.{◌≡◌, ℕ, suc, ◌+◌, ◌*◌, ◌<◌, ◌≤◌, List, length, ℤ, pos, take, Option, nat_lt, slice_index, slice_index_or}
+use Rattle.std.specs.Prelude.{◌≡◌, ℕ, suc, ◌+◌, ◌*◌, ◌%◌, ◌<◌, ◌≤◌, ◌==◌, not, List, length, ℤ, pos, take, Option, nat_lt, slice_index, slice_index_or}
 use Rattle.std.specs.Int.{w32, cast_signed}
 use Rattle.std.specs.Option.{option_or, option_map}
 use Rattle.std.proofs.Common.{refl, sym, ap, ◌∙◌, arith}
@@ -10,12 +10,13 @@ use Rattle.std.proofs.lemmas.List.FromFn.{fill_by_all}
 use Rattle.scan.specs.AxisChecks.{count_check, edges_check}
 use Rattle.scan.specs.DraftChecks.{distances_check}
 use Rattle.scan.specs.Verdicts.{refused_where}
-use Rattle.scan.specs.declared.refusal.Refusal.TheVariants.{StepOutOfRange}
+use Rattle.scan.specs.declared.refusal.Refusal.TheVariants.{NotMultiple, StepOutOfRange}
 use Rattle.scan.proofs.Propers.{count_within}
 use Rattle.planfile.specs.Numbers.{count_at, number_at, numbers_from}
 use Rattle.planfile.specs.Sections.{place_of, section_at, end_of, start}
 use Rattle.planfile.specs.Faults.{refused_at}
-use Rattle.planfile.specs.FileChecks.{whole_check, numbers_check, section_check, refused_in, distances_section, axis_section, first_no_step, steps_section, clearance, axes_check, plan_check, voxels_check}
+use Rattle.planfile.specs.FileChecks.{whole_check, numbers_check, section_check, refused_in, distances_section, axis_section, even_check, circle_check, directions_section, directions_in, first_no_step, steps_section, clearance, axes_check, plan_check, voxels_check}
+use Rattle.planfile.specs.Pairs.{headings_in}
 use Rattle.planfile.specs.Plans.{scan_in}
 use Rattle.planfile.specs.declared.fault.Fault.{Fault}
 use Rattle.planfile.specs.declared.fault.Fault.TheVariants.{Incomplete, Trailing}
@@ -156,10 +157,19 @@ module _ {n : ℕ} {bytes other : List ℕ} (front : SameFront n bytes other) wh
   unfolding axis_section
   axis_agrees p l = contents_agree (λ zs. option_map (refused_in p) (edges_check zs)) p 2 513 l
 
-  -- the check of the section of the steps finds the same
-  steps_agree : (p : ℕ) → place_of p 1024 ≤ n → Agree (steps_section bytes p) (steps_section other p) (SameSection bytes other p 1024)
+  -- a count in the front is even in both, or is refused in both
+  evens_agree : (p : ℕ) → p + 4 ≤ n → Agree (even_check bytes p) (even_check other p) (Unit {0})
+  evens_agree p l = and_then _ _ (wholes_agree p l) (λ _. record { same = ap (λ k. refused_where (not (k % 2 == 0)) (refused_at p (NotMultiple k 2))) (count_same p l); known = λ _. tt })
+
+  -- the check of the section of the directions finds the same
+  directions_agree : (p : ℕ) → place_of p 2048 ≤ n → Agree (directions_section bytes p) (directions_section other p) (SameSection bytes other p 2048)
+  unfolding directions_section
+  directions_agree p l = and_then _ _ (evens_agree p (omega arith)) (λ _. contents_agree (λ zs. circle_check p (headings_in zs)) p 0 2048 l)
+
+  -- the check of the section of the steps finds the same, where there are as many directions
+  steps_agree : (directions p : ℕ) → place_of p 1024 ≤ n → Agree (steps_section bytes p directions) (steps_section other p directions) (SameSection bytes other p 1024)
   unfolding steps_section
-  steps_agree p l = contents_agree (λ zs. option_map (λ i. refused_at (place_of p i) (StepOutOfRange (slice_index_or zs i (pos 0)))) (first_no_step zs)) p 0 1024 l
+  steps_agree directions p l = contents_agree (λ zs. option_map (λ i. refused_at (place_of p i) (StepOutOfRange (slice_index_or zs i (pos 0)) directions)) (first_no_step directions zs)) p 0 1024 l
 
   -- the check of an axis finds the same where its section begins
   axis_at : (k bound : ℕ) → place_of bound 513 ≤ n → Begins bytes other k bound → Agree (axis_section bytes (start bytes k)) (axis_section other (start other k)) (Passed bytes other k (place_of bound 513))
@@ -177,9 +187,9 @@ record SameAxes (bytes other : List ℕ) : Type 0 where
 -- what is the same of a plan: the scan, and where the section of the voxels begins
 pub record SamePlan (bytes other : List ℕ) : Type 0 where
   pub scan : scan_in bytes ≡ scan_in other
-  pub voxels : start bytes 7 ≡ start other 7
+  pub voxels : start bytes 8 ≡ start other 8
 
-module _ {n : ℕ} {bytes other : List ℕ} (front : SameFront n bytes other) (long : 14392 ≤ n) where
+module _ {n : ℕ} {bytes other : List ℕ} (front : SameFront n bytes other) (long : 22588 ≤ n) where
   -- the check of the first six sections finds the same
   axes_agree : Agree (axes_check bytes) (axes_check other) (SameAxes bytes other)
   unfolding axes_check
@@ -199,19 +209,25 @@ module _ {n : ℕ} {bytes other : List ℕ} (front : SameFront n bytes other) (l
     known = λ _. tt;
   }
 
-  -- the scan is the same once all seven sections are
-  scan_same : {bound : ℕ} → SameAxes bytes other → Passed bytes other 6 bound → scan_in bytes ≡ scan_in other
+  -- the scan is the same once all eight sections are
+  scan_same : {bound more : ℕ} → SameAxes bytes other → Passed bytes other 6 bound → Passed bytes other 7 more → scan_in bytes ≡ scan_in other
   unfolding scan_in
-  scan_same axes steps =
-      rw (axes.distances.numbers, axes.x.numbers, axes.y.numbers, axes.z.numbers, axes.column.numbers, axes.row.numbers, steps.numbers) refl
+  scan_same axes directions steps =
+      rw (axes.distances.numbers, axes.x.numbers, axes.y.numbers, axes.z.numbers, axes.column.numbers, axes.row.numbers, directions.numbers, steps.numbers) refl
 
-  -- the check of a plan finds the same where the front takes in so much, since the steps have at most 4,100 bytes
+  -- the check of the steps finds the same once the directions are
+  steps_at : {bound : ℕ} → place_of bound 1024 ≤ n → Passed bytes other 6 bound → Agree (steps_section bytes (start bytes 7) (directions_in bytes)) (steps_section other (start other 7) (directions_in other)) (Passed bytes other 7 (place_of bound 1024))
+  steps_at {bound} l directions =
+      rw (← directions.numbers) (at_start front (λ some at. steps_section some at (directions_in bytes)) 7 bound 1024 (steps_agree front (directions_in bytes)) l directions.next)
+
+  -- the check of a plan finds the same where the front takes in so much, since the directions have at most 8,196 bytes and the steps 4,100
   pub plans_agree : Agree (plan_check bytes) (plan_check other) (SamePlan bytes other)
   unfolding plan_check
   plans_agree =
       and_then _ _ axes_agree (λ axes.
       and_then _ _ (clearances_agree axes) (λ _.
-      giving (λ steps. record { scan = scan_same axes steps; voxels = steps.next.place }) (at_start front steps_section 6 10292 1024 (steps_agree front) (omega arith) axes.row.next)))
+      and_then _ _ (at_start front directions_section 6 10292 2048 (directions_agree front) (omega arith) axes.row.next) (λ directions.
+      giving (λ steps. record { scan = scan_same axes directions steps; voxels = steps.next.place }) (steps_at (omega arith) directions))))
 
 module _ {n : ℕ} {bytes other : List ℕ} (front : SameFront n bytes other) where
   -- where a file ends before the front does, bytes follow it in both

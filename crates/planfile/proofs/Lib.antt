@@ -2,6 +2,7 @@ pub mod Searches
 pub mod Nones
 pub mod NumberFacts
 pub mod NumberChecks
+pub mod PairFacts
 pub mod FourBytes
 pub mod SectionFacts
 pub mod SectionChecks

@@ -2,6 +2,7 @@
 use Rattle.std.specs.Prelude.{◌≡◌, ℕ, List, [], ◌∷◌, ◌++◌, map, ℤ, pos}
 use Rattle.std.proofs.Common.{append_assoc}
 use Rattle.scan.specs.Scans.{Scan}
+use Rattle.planfile.specs.Pairs.{numbers_of}
 use Rattle.planfile.specs.Written.{section_bytes, written}
 
 -- the numbers of the section of the distances
@@ -12,9 +13,13 @@ distances_of scan = scan.source ∷ scan.panel ∷ []
 abbrev pub from_steps : Scan → List ℕ → List ℕ
 from_steps scan rest = section_bytes (map pos scan.steps) ++ rest
 
+-- the sections from the directions on
+abbrev pub from_directions : Scan → List ℕ → List ℕ
+from_directions scan rest = section_bytes (numbers_of scan.directions) ++ from_steps scan rest
+
 -- the sections from the rows on
 abbrev pub from_row : Scan → List ℕ → List ℕ
-from_row scan rest = section_bytes scan.row ++ from_steps scan rest
+from_row scan rest = section_bytes scan.row ++ from_directions scan rest
 
 -- the sections from the columns on
 abbrev pub from_column : Scan → List ℕ → List ℕ
@@ -32,12 +37,12 @@ from_y scan rest = section_bytes scan.y ++ from_z scan rest
 abbrev pub from_x : Scan → List ℕ → List ℕ
 from_x scan rest = section_bytes scan.x ++ from_y scan rest
 
--- seven lists, and what follows them
-seven : (a b c d e f g rest : List ℕ) → (a ++ (b ++ (c ++ (d ++ (e ++ (f ++ g)))))) ++ rest ≡ a ++ (b ++ (c ++ (d ++ (e ++ (f ++ (g ++ rest))))))
-seven a b c d e f g rest = simp append_assoc
+-- eight lists, and what follows them
+eight : (a b c d e f g h rest : List ℕ) → (a ++ (b ++ (c ++ (d ++ (e ++ (f ++ (g ++ h))))))) ++ rest ≡ a ++ (b ++ (c ++ (d ++ (e ++ (f ++ (g ++ (h ++ rest)))))))
+eight a b c d e f g h rest = simp append_assoc
 
 -- a written scan and what follows it, section by section
 pub by_sections : (scan : Scan) (rest : List ℕ) → written scan ++ rest ≡ section_bytes (distances_of scan) ++ from_x scan rest
 unfolding written
 by_sections scan rest =
-    seven (section_bytes (distances_of scan)) (section_bytes scan.x) (section_bytes scan.y) (section_bytes scan.z) (section_bytes scan.column) (section_bytes scan.row) (section_bytes (map pos scan.steps)) rest
+    eight (section_bytes (distances_of scan)) (section_bytes scan.x) (section_bytes scan.y) (section_bytes scan.z) (section_bytes scan.column) (section_bytes scan.row) (section_bytes (numbers_of scan.directions)) (section_bytes (map pos scan.steps)) rest

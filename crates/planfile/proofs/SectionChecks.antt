@@ -1,13 +1,13 @@
 -- What the check of a section finds.
-use Rattle.std.specs.Prelude.{◌≡◌, ℕ, zero, suc, ◌+◌, ◌*◌, ◌≤◌, Bool, List, length, ℤ, None, nat_lt}
-use Rattle.std.proofs.Common.{arith}
-use Rattle.std.proofs.lemmas.Bool.{ltb-false, le-ltb}
+use Rattle.std.specs.Prelude.{◌≡◌, ℕ, zero, suc, ◌+◌, ◌*◌, ◌%◌, ◌≤◌, Bool, not, true, false, List, length, ℤ, None, nat_lt}
+use Rattle.std.proofs.Common.{refl, arith}
+use Rattle.std.proofs.lemmas.Bool.{ltb-false, le-ltb, eqb-true, not-false}
 use Rattle.scan.specs.Verdicts.{first_where}
 use Rattle.scan.proofs.Firsts.{first_none}
 use Rattle.planfile.specs.Numbers.{count_at}
 use Rattle.planfile.specs.Sections.{end_of}
 use Rattle.planfile.specs.Faults.{refused_at}
-use Rattle.planfile.specs.FileChecks.{whole_check, numbers_check, section_check}
+use Rattle.planfile.specs.FileChecks.{whole_check, numbers_check, section_check, even_check}
 use Rattle.planfile.specs.declared.fault.Fault.TheVariants.{Incomplete}
 use Rattle.planfile.proofs.NumberChecks.{all_whole}
 use Rattle.planfile.proofs.Nones.{none_or, first_nothing, second_nothing, none_map, map_none, none_where, where_none, count_fits}
@@ -30,6 +30,16 @@ section_passes {bytes} {p} {zs} {rest} least most stands l m =
     none_or (none_where (Incomplete p) (le-ltb (length bytes) (p + 4) (omega (arith, stands.whole))))
     (rw stands.count
     (none_or (none_map (refused_at p) (count_fits (length zs) least most l m)) (all_whole bytes (p + 4) (length zs) stands.whole)))
+
+-- nor has one whose count is even
+pub even_passes : {bytes : List ℕ} {p : ℕ} {zs : List ℤ} {rest : List ℕ} → Stands bytes p zs rest → count_at bytes p % 2 ≡ 0 → even_check bytes p ≡ None
+even_passes {bytes} {p} stands even =
+    none_or (none_where (Incomplete p) (le-ltb (length bytes) (p + 4) (omega (arith, stands.whole))))
+    (none_where _ (rw even refl))
+
+-- a count that is not refused is even
+pub even_known : (bytes : List ℕ) (p : ℕ) → even_check bytes p ≡ None → count_at bytes p % 2 ≡ 0
+even_known bytes p e = eqb-true _ 0 (not-false _ (where_none _ _ (second_nothing (whole_check bytes p) _ e)))
 
 -- a section that has no fault has a count within its limits, and is whole
 pub section_known : (bytes : List ℕ) (p least most : ℕ) → section_check bytes p least most ≡ None → (least ≤ count_at bytes p) × (count_at bytes p ≤ most) × (end_of bytes p ≤ length bytes)

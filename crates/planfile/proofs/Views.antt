@@ -28,8 +28,8 @@ views_so_far scan zs i l =
     omega (arith, length-append scan.steps (map unsigned_abs (take i zs)), length-map (take i zs) unsigned_abs, length-take-le i zs l)
 
 -- nothing is found of a step where nothing is found of all, and there is room
-pub view_passes : (zs : List ℤ) (i views : ℕ) → first_no_step zs ≡ None → i < length zs → views < 1024 → view_check views (edge_or_zero zs i) ≡ None
-view_passes zs i views none l room =
-    let test : ℕ → Bool = λ k. no_step (edge_or_zero zs k) in
+pub view_passes : (zs : List ℤ) (i views directions : ℕ) → first_no_step directions zs ≡ None → i < length zs → views < 1024 → view_check views directions (edge_or_zero zs i) ≡ None
+view_passes zs i views directions none l room =
+    let test : ℕ → Bool = λ k. no_step directions (edge_or_zero zs k) in
     let step = first_none test (length zs) none i l in
-    none_or (none_where (StepOutOfRange (edge_or_zero zs i)) step) (none_where (DraftFull views) (grind (arith, nat_tests)))
+    none_or (none_where (StepOutOfRange (edge_or_zero zs i) directions) step) (none_where (DraftFull views) (grind (arith, nat_tests)))

@@ -1,14 +1,17 @@
 -- What is checked of the bytes of a plan and of its values, in which order, and the fault that follows with its place: of checks joined by `option_or` the first that refuses is the answer.
 use Rattle.std.specs.Option.{option_or, option_map}
-use Rattle.std.specs.Prelude.{ℕ, ◌+◌, ◌*◌, not, List, length, ℤ, Option, nat_lt, ◌==◌}
+use Rattle.std.specs.Prelude.{ℕ, ◌+◌, ◌*◌, ◌%◌, not, List, length, ℤ, Option, nat_lt, ◌==◌}
+use Rattle.geometry.specs.declared.heading.Heading.{Heading}
 use Rattle.scan.specs.Verdicts.{refused_where, first_where}
 use Rattle.scan.specs.Refusals.{place as edge_number}
 use Rattle.scan.specs.AxisChecks.{edge_or_zero, count_check, edges_check}
-use Rattle.scan.specs.DraftChecks.{distances_check, source_check, columns_check, no_step}
+use Rattle.scan.specs.DraftChecks.{distances_check, source_check, columns_check, first_off_circle, no_step}
+use Rattle.scan.specs.Turning.{directions_of, heading_or_zero}
 use Rattle.scan.specs.declared.refusal.Refusal.{Refusal}
-use Rattle.scan.specs.declared.refusal.Refusal.TheVariants.{StepOutOfRange, StoreLength}
+use Rattle.scan.specs.declared.refusal.Refusal.TheVariants.{NotMultiple, OffCircle, StepOutOfRange, StoreLength}
 use Rattle.scan.specs.declared.refusal.Store.TheVariants.{Volume}
 use Rattle.planfile.specs.Numbers.{count_at}
+use Rattle.planfile.specs.Pairs.{headings_in}
 use Rattle.planfile.specs.Sections.{place_of, section_at, entry, end_of, start}
 use Rattle.planfile.specs.Faults.{refused_at}
 use Rattle.planfile.specs.declared.fault.Fault.{Fault}
@@ -41,15 +44,35 @@ distances_section bytes p =
 unfoldable pub axis_section : List ℕ → ℕ → Option Fault
 axis_section bytes p = option_or (section_check bytes p 2 513) (option_map (refused_in p) (edges_check (section_at bytes p)))
 
--- The first number of a list that is no step.
-abbrev pub first_no_step : List ℤ → Option ℕ
-first_no_step zs = first_where (λ i. no_step (edge_or_zero zs i)) (length zs)
+-- Of the section at place p, whose numbers go two by two, 1 is checked for its count, and 2 for an odd one.
+abbrev pub even_check : List ℕ → ℕ → Option Fault
+even_check bytes p =
+    option_or (whole_check bytes p)
+    (refused_where (not (count_at bytes p % 2 == 0)) (refused_at p (NotMultiple (count_at bytes p) 2)))
+
+-- 11 for the first heading of a list, whose section begins at place p, that is not accepted, at its c.
+abbrev pub circle_check : ℕ → List Heading → Option Fault
+circle_check p hs = option_map (λ i. refused_at (place_of p (2 * i)) (OffCircle i (heading_or_zero hs i))) (first_off_circle hs)
+
+-- The section of the directions has an even count of 0 to 2,048 numbers, of whose headings then 11 is checked.
+unfoldable pub directions_section : List ℕ → ℕ → Option Fault
+directions_section bytes p =
+    option_or (even_check bytes p)
+    (option_or (section_check bytes p 0 2048) (circle_check p (headings_in (section_at bytes p))))
+
+-- How many directions a step of the file is one of: those of their section, or the 64 of the turn table.
+abbrev pub directions_in : List ℕ → ℕ
+directions_in bytes = directions_of (length (headings_in (section_at bytes (start bytes 6))))
+
+-- The first number of a list that is no step, where there are so many directions.
+abbrev pub first_no_step : ℕ → List ℤ → Option ℕ
+first_no_step directions zs = first_where (λ i. no_step directions (edge_or_zero zs i)) (length zs)
 
 -- The section of the steps has 0 to 1,024, of which then 9 is checked, for the first that is no step.
-unfoldable pub steps_section : List ℕ → ℕ → Option Fault
-steps_section bytes p =
+unfoldable pub steps_section : List ℕ → ℕ → ℕ → Option Fault
+steps_section bytes p directions =
     option_or (section_check bytes p 0 1024)
-    (option_map (λ i. refused_at (place_of p i) (StepOutOfRange (entry bytes p i))) (first_no_step (section_at bytes p)))
+    (option_map (λ i. refused_at (place_of p i) (StepOutOfRange (entry bytes p i) directions)) (first_no_step directions (section_at bytes p)))
 
 -- Of the distances and axes together 7 is checked, at D, and then 8, at the first such edge of the columns.
 unfoldable pub clearance : List ℕ → Option Fault
@@ -66,9 +89,12 @@ axes_check bytes =
     (option_or (axis_section bytes (start bytes 3))
     (option_or (axis_section bytes (start bytes 4)) (axis_section bytes (start bytes 5))))))
 
--- A plan's bytes: the distances and the axes are checked one by one, then together, and then the steps.
+-- A plan's bytes: the distances and the axes are checked one by one, then together, and then the directions and the steps.
 unfoldable pub plan_check : List ℕ → Option Fault
-plan_check bytes = option_or (axes_check bytes) (option_or (clearance bytes) (steps_section bytes (start bytes 6)))
+plan_check bytes =
+    option_or (axes_check bytes)
+    (option_or (clearance bytes)
+    (option_or (directions_section bytes (start bytes 6)) (steps_section bytes (start bytes 7) (directions_in bytes))))
 
 -- Of the values of n voxels, whose section begins at place p, 1 is checked for their count, 2 for a count other than n, 1 for the values, and 3 for bytes that follow.
 abbrev pub voxels_check : List ℕ → ℕ → ℕ → Option Fault

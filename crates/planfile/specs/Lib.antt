@@ -1,5 +1,6 @@
 pub mod Numbers
 pub mod Sections
+pub mod Pairs
 pub mod Plans
 pub mod Written
 pub mod Faults

@@ -1,4 +1,4 @@
--- Sections: a count, and then as many numbers. A file has eight: the distances; the edges of x, of y, of z, of the columns and of the rows; the steps; and the values of the voxels. The first seven are the plan. Here they are counted from 0.
+-- Sections: a count, and then as many numbers. A file has nine: the distances; the edges of x, of y, of z, of the columns and of the rows; the directions; the steps; and the values of the voxels. The first eight are the plan. Here they are counted from 0.
 use Rattle.std.specs.Prelude.{ℕ, zero, suc, ◌+◌, ◌*◌, List, ℤ, pos, slice_index_or}
 use Rattle.planfile.specs.Numbers.{count_at, numbers_from}
 

@@ -2,13 +2,14 @@ ghost use Rattle.std.specs.Prelude.{◌≡◌, ◌+◌, ◌-◌, ◌*◌, ◌^�
 ghost use Rattle.scan.specs.Verdicts.{Verdict};
 ghost use Rattle.planfile.specs.Numbers.{count_at, numbers_from, numbers_in};
 ghost use Rattle.planfile.specs.Sections.{section_at, end_of};
-ghost use Rattle.planfile.specs.FileChecks.{whole_check, numbers_check, section_check};
+ghost use Rattle.planfile.specs.FileChecks.{whole_check, numbers_check, section_check, even_check};
 
 use crate::fault::Fault;
 use crate::numbers::{Numbers, unsigned_at};
 use crate::placed::Placed;
 use crate::section::Section;
 use scan::edges::check_count;
+use scan::refusal::Refusal;
 
 // Lent bytes, and how far they are read. What is read is never copied.
 #[derive(Clone, Copy)]
@@ -77,5 +78,21 @@ impl<'a> Cursor<'a> {
         })?;
         let numbers = self.numbers(found)?;
         Ok(Section { start, numbers })
+    }
+
+    // Checks that the section that comes next has a count (1), and an even one (2). Reads nothing.
+    pub(crate) fn check_even(&self) -> Result<(), Fault>
+        ensures { Verdict (even_check self.now.bytes.now self.now.offset) (λ _. Unit {0}) result }
+    {
+        let mut ahead = *self;
+        let found = ahead.count()?;
+        if found % 2 != 0 {
+            let refusal = Refusal::NotMultiple { found, unit: 2 };
+            return Err(Fault::from(Placed {
+                refusal,
+                place: self.offset,
+            }));
+        }
+        Ok(())
     }
 }

@@ -6,6 +6,7 @@ pub mod bytes_axis;
 mod clearance;
 mod cursor;
 pub mod fault;
+mod headings;
 pub mod numbers;
 pub mod placed;
 pub mod plan;

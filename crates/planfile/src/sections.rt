@@ -1,10 +1,12 @@
 // The sections of a plan, read one after the other.
 ghost use Rattle.std.specs.Prelude.{◌≡◌, ◌^◌, ◌<◌, ◌≤◌, length, IfSome, OnOk};
+ghost use Rattle.scan.specs.Turning.{Turning};
 ghost use Rattle.scan.specs.Verdicts.{Verdict};
 ghost use Rattle.planfile.specs.Numbers.{numbers_in};
 ghost use Rattle.planfile.specs.Sections.{section_at, entry, end_of, start};
 ghost use Rattle.planfile.specs.Kept.{AxesOf};
-ghost use Rattle.planfile.specs.FileChecks.{first_no_step, distances_section, axis_section, steps_section, axes_check};
+ghost use Rattle.planfile.specs.Pairs.{headings_in};
+ghost use Rattle.planfile.specs.FileChecks.{first_no_step, distances_section, axis_section, directions_section, steps_section, axes_check};
 
 use crate::axes::Axes;
 use crate::bytes_axis::BytesAxis;
@@ -13,18 +15,20 @@ use crate::fault::Fault;
 use crate::numbers::Numbers;
 use crate::section::refused_number;
 use geometry::distances::Distances;
-use geometry::step::LAST_STEP;
 use scan::axis::{Axis, MOST_EDGES};
+use scan::directions::{Headings, MOST_DIRECTIONS, first_off_circle};
 use scan::draft_checks::check_distances;
 use scan::plan::MOST_VIEWS;
 use scan::refusal::Refusal;
 
-// The first of some numbers that is no step.
-fn first_no_step(numbers: &Numbers<'_>) -> Option<usize>
-    ensures value { result ≡ first_no_step (numbers_in numbers.now.bytes.now) }
+// The first of some numbers that is no step, where there are so many directions.
+fn first_no_step(numbers: &Numbers<'_>, directions: usize) -> Option<usize>
+    requires { directions ≤ 1024 }
+    ensures value { result ≡ first_no_step directions (numbers_in numbers.now.bytes.now) }
     ensures within { IfSome result (λ i. i < length (numbers_in numbers.now.bytes.now)) }
 {
-    (0..numbers.len()).find(|&i| !(0..=LAST_STEP).contains(&numbers.number(i)))
+    let end = directions as i32;
+    (0..numbers.len()).find(|&i| !(0..end).contains(&numbers.number(i)))
 }
 
 impl<'a> Cursor<'a> {
@@ -58,20 +62,41 @@ impl<'a> Cursor<'a> {
         }
     }
 
-    // Reads the section of the steps (1, 2, 1, 9).
-    #[tactic(auto, using(std::proofs::lemmas::Result::err_from_is_err_and), unfolding(crate::specs::FileChecks::steps_section))]
-    pub(crate) fn steps(&mut self) -> Result<Numbers<'a>, Fault>
+    // Reads the section of the directions (1, 2, 2, 1, 11).
+    #[tactic(auto, using(std::proofs::lemmas::Result::err_from_is_err_and), unfolding(crate::specs::FileChecks::directions_section))]
+    pub(crate) fn directions(&mut self) -> Result<Numbers<'a>, Fault>
         ensures answer { let b = self.old.bytes.now in let p = self.old.offset in
-            Verdict (steps_section b p) (λ steps. (numbers_in steps.bytes.now ≡ section_at b p) × (first_no_step (numbers_in steps.bytes.now) ≡ None) × (length (numbers_in steps.bytes.now) ≤ 1024) × (end_of b p ≤ length b)) result }
+            Verdict (directions_section b p) (λ headings. (numbers_in headings.bytes.now ≡ section_at b p) × Turning (headings_in (numbers_in headings.bytes.now))) result }
+        ensures bytes { self.new.bytes.now ≡ self.old.bytes.now }
+        ensures moved { OnOk result (self.new.offset ≡ end_of self.old.bytes.now self.old.offset) }
+    {
+        self.check_even()?;
+        let section = self.section(0, 2 * MOST_DIRECTIONS)?;
+        match first_off_circle(&section.numbers) {
+            None => Ok(section.numbers),
+            Some(direction) => {
+                let heading = section.numbers.heading(direction);
+                let refusal = Refusal::OffCircle { direction, heading };
+                Err(refused_number(section.start, 2 * direction, refusal).into())
+            }
+        }
+    }
+
+    // Reads the section of the steps, where there are so many directions (1, 2, 1, 9).
+    #[tactic(auto, using(std::proofs::lemmas::Result::err_from_is_err_and), unfolding(crate::specs::FileChecks::steps_section))]
+    pub(crate) fn steps(&mut self, directions: usize) -> Result<Numbers<'a>, Fault>
+        requires { directions ≤ 1024 }
+        ensures answer { let b = self.old.bytes.now in let p = self.old.offset in
+            Verdict (steps_section b p directions) (λ steps. (numbers_in steps.bytes.now ≡ section_at b p) × (first_no_step directions (numbers_in steps.bytes.now) ≡ None) × (length (numbers_in steps.bytes.now) ≤ 1024) × (end_of b p ≤ length b)) result }
         ensures bytes { self.new.bytes.now ≡ self.old.bytes.now }
         ensures moved { OnOk result (self.new.offset ≡ end_of self.old.bytes.now self.old.offset) }
     {
         let section = self.section(0, MOST_VIEWS)?;
-        match first_no_step(&section.numbers) {
+        match first_no_step(&section.numbers, directions) {
             None => Ok(section.numbers),
             Some(i) => {
                 let step = i64::from(section.numbers.number(i));
-                let refusal = Refusal::StepOutOfRange { step };
+                let refusal = Refusal::StepOutOfRange { step, directions };
                 Err(refused_number(section.start, i, refusal).into())
             }
         }

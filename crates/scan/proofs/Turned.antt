@@ -2,6 +2,7 @@
 use Rattle.std.specs.Prelude.{◌≡◌, ℕ, ◌<◌, ◌≤◌, Bool, not, true, false, List, length, None, Option, Some, MatchOption}
 use Rattle.std.specs.Option.{IsSome}
 use Rattle.std.proofs.Common.{refl, sym, ◌∙◌}
+use Rattle.std.proofs.lemmas.Bool.{not-false}
 use Rattle.geometry.specs.Circle.{is_accepted}
 use Rattle.geometry.specs.Directions.{DirectionOf}
 use Rattle.geometry.specs.declared.direction.Direction.{Direction}
@@ -10,15 +11,10 @@ use Rattle.scan.specs.DraftChecks.{first_off_circle}
 use Rattle.scan.specs.Turning.{heading_or_zero, Turning}
 use Rattle.scan.proofs.Firsts.{first_none}
 
--- what is not false is true
-not_false : (b : Bool) → not b ≡ false → b ≡ true
-not_false true e = refl
-not_false false e = absurd (cc)
-
 pub all_accepted : (hs : List Heading) → length hs ≤ 1024 → first_off_circle hs ≡ None → Turning hs
 all_accepted hs few none = record {
   most = few;
-  accepted = λ i l. not_false _ (first_none (λ k. not (is_accepted (heading_or_zero hs k))) (length hs) none i l);
+  accepted = λ i l. not-false _ (first_none (λ k. not (is_accepted (heading_or_zero hs k))) (length hs) none i l);
 }
 
 -- an accepted heading has a direction

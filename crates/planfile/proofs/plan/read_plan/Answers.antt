@@ -18,4 +18,4 @@ pub returns-clause-again : goal.returns-clause-again
 returns-clause-again c scan rest fitted e =
     let bytes = c.args.bytes.now in
     let again = reread scan rest fitted in
-    not_refused (plan_check bytes) _ _ c.plan_and_rest.result (ap plan_check e ∙ again.0) (λ read told. (told.0 ∙ ap scan_in e ∙ again.1, told.1 ∙ ap (λ b. drop (start b 7) b) e ∙ again.2)) c.plan_and_rest.ensures
+    not_refused (plan_check bytes) _ _ c.plan_and_rest.result (ap plan_check e ∙ again.0) (λ read told. (told.0 ∙ ap scan_in e ∙ again.1, told.1 ∙ ap (λ b. drop (start b 8) b) e ∙ again.2)) c.plan_and_rest.ensures
