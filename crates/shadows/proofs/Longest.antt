@@ -5,7 +5,7 @@ use Rattle.std.proofs.lemmas.List.{length-map}
 use Rattle.scan.specs.Axes.{cells_of}
 use Rattle.scan.specs.Scans.{voxels_of, places_of}
 use Rattle.planfile.specs.Sections.{place_of, section_at, end_of, start}
-use Rattle.planfile.specs.FileChecks.{section_check, distances_section, axis_section, steps_section, axes_check, plan_check}
+use Rattle.planfile.specs.FileChecks.{section_check, even_check, distances_section, axis_section, directions_section, directions_in, steps_section, clearance, axes_check, plan_check}
 use Rattle.planfile.specs.Plans.{scan_in}
 use Rattle.planfile.proofs.Nones.{first_nothing, second_nothing}
 use Rattle.planfile.proofs.SectionChecks.{section_known}
@@ -57,29 +57,35 @@ axes_counted bytes none =
       row = axis_counted bytes 5 (second_nothing _ _ from_column);
     }
 
+-- there are at most 1,024 directions, of two numbers each
+directions_counted : (bytes : List ℕ) → directions_section bytes (start bytes 6) ≡ None → Counted bytes 6 0 2048
+unfolding directions_section
+directions_counted bytes none = counted bytes 6 0 2048 (first_nothing _ _ (second_nothing (even_check bytes (start bytes 6)) _ none))
+
 -- there are at most 1,024 steps
-steps_counted : (bytes : List ℕ) → steps_section bytes (start bytes 6) ≡ None → Counted bytes 6 0 1024
+steps_counted : (bytes : List ℕ) (directions : ℕ) → steps_section bytes (start bytes 7) directions ≡ None → Counted bytes 7 0 1024
 unfolding steps_section
-steps_counted bytes none = counted bytes 6 0 1024 (first_nothing _ _ none)
+steps_counted bytes directions none = counted bytes 7 0 1024 (first_nothing _ _ none)
 
 -- the first section begins at place 0
 first_start : (bytes : List ℕ) → start bytes 0 ≡ 0
 unfolding start
 first_start bytes = refl
 
--- with sections of so many numbers, a plan that is not too large ends with its voxels after 22,644 bytes at most
-counted_end : (bytes : List ℕ) → AxesCounted bytes → Counted bytes 6 0 1024 → voxels_of (scan_in bytes) ≤ 4096 → places_of (scan_in bytes) ≤ 4096 → place_of (start bytes 7) (voxels_of (scan_in bytes)) ≤ 22644
+-- with sections of so many numbers, a plan that is not too large ends with its voxels after 30,840 bytes at most
+counted_end : (bytes : List ℕ) → AxesCounted bytes → Counted bytes 6 0 2048 → Counted bytes 7 0 1024 → voxels_of (scan_in bytes) ≤ 4096 → places_of (scan_in bytes) ≤ 4096 → place_of (start bytes 8) (voxels_of (scan_in bytes)) ≤ 30840
 unfolding scan_in
-counted_end bytes axes steps voxels places =
+counted_end bytes axes directions steps voxels places =
     let cells : ℕ → ℕ = λ k. cells_of (section_at bytes (start bytes k)) in
     let first = first_start bytes in
-    let views = length-map (section_at bytes (start bytes 6)) unsigned_abs in
+    let views = length-map (section_at bytes (start bytes 7)) unsigned_abs in
     let edges = axes_most (cells 1) (cells 2) (cells 3) (omega arith) (omega arith) (omega arith) (omega arith) (omega arith) (omega arith) voxels in
-    let seen = views_most (length (section_at bytes (start bytes 6))) (cells 5) (cells 4) (omega arith) (omega arith) (omega arith) (omega arith) (omega arith) (rw views at places) in
+    let seen = views_most (length (section_at bytes (start bytes 7))) (cells 5) (cells 4) (omega arith) (omega arith) (omega arith) (omega arith) (omega arith) (rw views at places) in
     omega arith
 
--- where nothing is found of a plan, and it is not too large, its voxels end after 22,644 bytes at most
-pub longest_end : (bytes : List ℕ) → plan_check bytes ≡ None → voxels_of (scan_in bytes) ≤ 4096 → places_of (scan_in bytes) ≤ 4096 → place_of (start bytes 7) (voxels_of (scan_in bytes)) ≤ 22644
+-- where nothing is found of a plan, and it is not too large, its voxels end after 30,840 bytes at most
+pub longest_end : (bytes : List ℕ) → plan_check bytes ≡ None → voxels_of (scan_in bytes) ≤ 4096 → places_of (scan_in bytes) ≤ 4096 → place_of (start bytes 8) (voxels_of (scan_in bytes)) ≤ 30840
 unfolding plan_check
 longest_end bytes none =
-    counted_end bytes (axes_counted bytes (first_nothing _ _ none)) (steps_counted bytes (second_nothing _ _ (second_nothing _ _ none)))
+    let on = second_nothing (clearance bytes) _ (second_nothing (axes_check bytes) _ none) in
+    counted_end bytes (axes_counted bytes (first_nothing _ _ none)) (directions_counted bytes (first_nothing _ _ on)) (steps_counted bytes (directions_in bytes) (second_nothing _ _ on))

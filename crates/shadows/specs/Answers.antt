@@ -9,7 +9,7 @@ use Rattle.shadows.specs.declared.answer.Answer.{Answer}
 
 -- What the shadow is after an answer: that of the file, or what it was where the file is refused.
 abbrev pub Shown : Option Refusal → List ℕ → Shadow → Shadow → Type 0
-Shown None bytes old new = ShadowOf (scan_in bytes) (values_in bytes (start bytes 7)) new
+Shown None bytes old new = ShadowOf (scan_in bytes) (values_in bytes (start bytes 8)) new
 Shown (Some refusal) bytes old new = new ≡ old
 
 -- The answer to a file tells its refusal, if any, and shows its shadow, if it has one.

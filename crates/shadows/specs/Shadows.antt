@@ -24,11 +24,11 @@ use Rattle.shadows.specs.declared.shadow.Shadow.{Shadow}
 abbrev pub size_check : Scan → ℕ → Option Refusal
 size_check scan p = refused_where (nat_lt 4096 (voxels_of scan) || nat_lt 4096 (places_of scan)) (TooLarge (voxels_of scan) (places_of scan) p)
 
--- A file: the plan is checked, then 10, and then the section of the voxels, which follows the plan's seven.
+-- A file: the plan is checked, then 10, and then the section of the voxels, which follows the plan's eight.
 unfoldable pub shadow_check : List ℕ → Option Refusal
 shadow_check bytes =
     option_or (option_map File (plan_check bytes))
-    (option_or (size_check (scan_in bytes) (start bytes 7)) (option_map File (voxels_check bytes (start bytes 7) (voxels_of (scan_in bytes)))))
+    (option_or (size_check (scan_in bytes) (start bytes 8)) (option_map File (voxels_check bytes (start bytes 8) (voxels_of (scan_in bytes)))))
 
 -- The cells of a scan's shadow: its voxels projected forward in every view, as Count with factor 1.
 abbrev pub cells_seen : Scan → List Count → List Count

@@ -24,9 +24,9 @@ use values::count::Count;
 use values::reach::Reach;
 use values::value::Value;
 
-// How many bytes the longest file has that has a shadow, four to a number: 8 counts, 2 distances, the 524 edges and 4,096
-// values of 512 by 8 by 1 voxels, 1,024 steps, and the 7 edges of 4 rows and 1 column.
-const LONGEST_FILE: usize = 22_644;
+// How many bytes the longest file has that has a shadow, four to a number: 9 counts, 2 distances, the 524 edges and 4,096
+// values of 512 by 8 by 1 voxels, 1,024 directions of 2 numbers each, 1,024 steps, and the 7 edges of 4 rows and 1 column.
+const LONGEST_FILE: usize = 30_840;
 
 /// How many bytes of a file decide what is answered to it: one more than the longest file has that has a shadow. Who reads no
 /// more than these need not wait for the end of a file that has none.
@@ -123,13 +123,13 @@ fn make(shadow: &mut Shadow, plan: &Plan, values: &Numbers<'_>)
 #[tactic(auto, using(std::proofs::lemmas::Result::err_from_is_err_and), unfolding(crate::specs::Shadows::shadow_check))]
 pub fn shadow_of(bytes: &[u8], shadow: &mut Shadow) -> Result<(), Refusal>
     ensures answer { let b = bytes.now in
-        Verdict (shadow_check b) (λ _. ShadowOf (scan_in b) (values_in b (start b 7)) shadow.new) result }
+        Verdict (shadow_check b) (λ _. ShadowOf (scan_in b) (values_in b (start b 8)) shadow.new) result }
     // A refusal leaves the shadow.
     ensures kept { OnErr result (shadow.new ≡ shadow.old) }
     // The front of the bytes decides: the rest of longer ones makes no difference.
-    ensures front { shadow_check bytes.now ≡ shadow_check (take 22645 bytes.now) }
+    ensures front { shadow_check bytes.now ≡ shadow_check (take 30841 bytes.now) }
     // A shadow is made of no more bytes than the longest file has.
-    ensures longest { OnOk result (length bytes.now ≤ 22644) }
+    ensures longest { OnOk result (length bytes.now ≤ 30840) }
 {
     let (plan, rest) = read_plan(bytes)?;
     let start = bytes.len() - rest.len();

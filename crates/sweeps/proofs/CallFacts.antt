@@ -6,7 +6,7 @@ use Rattle.geometry.specs.declared.direction.SlabAxis.TheVariants.{X, Y}
 use Rattle.geometry.specs.Directions.{slab_axis, main_of, side_of}
 use Rattle.scan.specs.Landing.{Landing, voxels as landing_voxels, cells, weight}
 use Rattle.scan.specs.Scans.{Scan, voxels_of, panel_cells_of}
-use Rattle.scan.specs.Views.{step_of, landing_of, landing}
+use Rattle.scan.specs.Views.{heading_of, landing_of, landing}
 use Rattle.values.specs.Laws.{Ops, Laws}
 use Rattle.calls.specs.Calls.{forward, back, transfer, scale, in_cells}
 use Rattle.calls.specs.Stores.{at}
@@ -27,7 +27,7 @@ by_axis scan Y a b = refl
 -- the volume has the same voxels, whichever axis the slabs are along
 view_voxels : (scan : Scan) (view : ℕ) → landing_voxels (landing scan view) ≡ voxels_of scan
 unfolding landing
-view_voxels scan view = by_axis scan (slab_axis (step_of scan view)) (main_of (step_of scan view)) (side_of (step_of scan view))
+view_voxels scan view = by_axis scan (slab_axis (heading_of scan view)) (main_of (heading_of scan view)) (side_of (heading_of scan view))
 
 view_cells : (scan : Scan) (view : ℕ) → cells (landing scan view) ≡ panel_cells_of scan
 unfolding landing

@@ -30,7 +30,7 @@ sides = minus 100 ∷ pos 0 ∷ pos 100 ∷ []
 abbrev pub columns_to : ℤ → List ℤ
 columns_to last = minus 200 ∷ pos 0 ∷ last ∷ []
 
--- The worked plan, with views at some steps.
+-- The worked plan, with views at some steps of the turn table.
 abbrev pub worked : List ℕ → Scan
 worked steps =
     record {
@@ -41,6 +41,7 @@ worked steps =
       z = minus 50 ∷ pos 50 ∷ [];
       column = columns_to (pos 200);
       row = minus 100 ∷ pos 100 ∷ [];
+      directions = [];
       steps = steps;
     }
 

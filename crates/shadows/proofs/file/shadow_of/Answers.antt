@@ -23,11 +23,11 @@ pub returns-clause-front : goal.returns-clause-front
 returns-clause-front c = front c.args.bytes.now
 
 -- the section of the voxels begins where the plan ends
-begins : (c : goal.After-make) → length c.args.bytes.now - length c.in_ok-plan.rest.now ≡ start c.args.bytes.now 7
+begins : (c : goal.After-make) → length c.args.bytes.now - length c.in_ok-plan.rest.now ≡ start c.args.bytes.now 8
 begins c =
     let bytes = c.args.bytes.now in
     let read = c.in_ok-plan.ensures.answer in
-    rw read.1.1 (omega (arith, read.1.2, length-drop (start bytes 7) bytes))
+    rw read.1.1 (omega (arith, read.1.2, length-drop (start bytes 8) bytes))
 
 -- nothing of the file is refused
 passed : (c : goal.After-make) → shadow_check c.args.bytes.now ≡ None
@@ -36,7 +36,7 @@ passed c =
     nothing_refused c.args.bytes.now _ _ read.0 read.1.0 (begins c) c.in_ok-check_size.ensures.0 (none_map File c.in_ok-values.ensures.0)
 
 -- what was read are the values of the section
-values_are : (c : goal.After-make) → map count_of (section_at c.args.bytes.now (length c.args.bytes.now - length c.in_ok-plan.rest.now)) ≡ values_in c.args.bytes.now (start c.args.bytes.now 7)
+values_are : (c : goal.After-make) → map count_of (section_at c.args.bytes.now (length c.args.bytes.now - length c.in_ok-plan.rest.now)) ≡ values_in c.args.bytes.now (start c.args.bytes.now 8)
 unfolding values_in
 values_are c = ap (λ p. map count_of (section_at c.args.bytes.now p)) (begins c)
 
