@@ -55,6 +55,7 @@ class Call(NamedTuple):
 EDGES = "let mut edges = [0i32; MOST_EDGES]; let mut next = -256i32; for edge in &mut edges { *edge = next; next = next.wrapping_add(1); }"
 LISTED = EDGES + " let Ok(listed) = ListedAxis::new(&edges) else { return 2; };"
 EVEN = "let Ok(even) = EvenAxis::new(-256, 1, 512) else { return 2; };"
+HEADINGS = " let headings = &[Heading { c: 16384, s: 0 }; MOST_DIRECTIONS];"
 DRAFT = EVEN + " let Ok(mut draft) = Draft::new(2000, 4000, &even, &even, &even, &even, &even) else { return 2; };"
 PLAN = "let Ok((plan, rest)) = read_plan(bytes) else { return 2; }; let plan = &plan;"
 VOLUME = " let volume = &mut full(plan.voxels(), factor);"
@@ -74,6 +75,7 @@ CALLS = [
     Call("EvenAxis::new", "Result<EvenAxis, Refusal>", "EvenAxis::new(-256, one, 512)"),
     Call("Draft::new", "Result<Draft, Refusal>", "Draft::new(2000, 4000, &listed, &listed, &listed, &listed, &listed)", LISTED),
     Call("Draft::new", "Result<Draft, Refusal>", "Draft::new(2000, 4000, &even, &even, &even, &even, &even)", EVEN),
+    Call("Draft::with_directions", "Result<Draft, Refusal>", "Draft::with_directions(2000, 4000, &even, &even, &even, &even, &even, headings)", EVEN + HEADINGS),
     Call("Draft::add_view", "Result<usize, Refusal>", "draft.add_view(one)", DRAFT + " let draft = &mut draft;"),
     Call("Draft::seal", "Plan", "own.seal()", DRAFT + " let _ = draft.add_view(1); let own = draft;"),
     Call("read_plan", "Result<(Plan, &[u8]), Fault>", "read_plan(bytes)"),
@@ -101,6 +103,7 @@ ACCEPTED = {"Plan": "{}.views() == 1", "Shadow": "{}.rows == 1", "Answer": "{}.s
 APART = {
     "ListedAxis::new": ("scan/src/listed.rt", "    pub fn new("),
     "Draft::new": ("scan/src/draft.rt", "    pub fn new<"),
+    "Draft::with_directions": ("scan/src/draft.rt", "    pub fn with_directions<"),
     "read_plan": ("planfile/src/plan.rt", "pub fn read_plan("),
     "Shadow::default": ("shadows/src/shadow.rt", "    fn default("),
     "Answer::default": ("shadows/src/answer.rt", "    fn default("),
@@ -113,8 +116,9 @@ CRATE = """\
 
 use arrayvec::ArrayVec;
 use calls::{call::Call, voxel_box::{Bounds, VoxelBox}};
+use geometry::heading::Heading;
 use planfile::{fault::Fault, numbers::Numbers, plan::read_plan, voxels::{read_values, voxel_values}};
-use scan::{axis::MOST_EDGES, draft::Draft, even::EvenAxis, listed::ListedAxis, plan::Plan, refusal::Refusal, scan_axis::ScanAxis};
+use scan::{axis::MOST_EDGES, directions::MOST_DIRECTIONS, draft::Draft, even::EvenAxis, listed::ListedAxis, plan::Plan, refusal::Refusal, scan_axis::ScanAxis};
 use shadows::{answer::{Answer, answer_to}, file::shadow_of, refusal::Refusal as NoShadow, shadow::{MOST_PLACES, Shadow}};
 use std::mem::size_of;
 use sweeps::{backprojection::back, projection::forward, row::{perform, run}, scaling::scale, tally::tally};

@@ -1,8 +1,9 @@
-//! A small plan, projected forward and back, and one iteration run as a row of calls.
+//! A small plan, projected forward and back, one iteration run as a row of calls, and views at unequal angles.
 #![tactic(auto)]
 
 use anyhow::{Context, Result};
 use calls::call::Call;
+use geometry::heading::Heading;
 use scan::draft::Draft;
 use scan::even::EvenAxis;
 use scan::listed::ListedAxis;
@@ -20,13 +21,44 @@ use values::reach::Reach;
 use values::value::Value;
 
 // Two by two voxels of 100 units, 100 high, and a panel of one row and two columns.
+#[derive(Drop)]
+struct Axes {
+    across: EvenAxis,
+    height: EvenAxis,
+    column: ListedAxis,
+    row: ListedAxis,
+}
+
+fn small_axes() -> Result<Axes, Refusal> {
+    Ok(Axes {
+        across: EvenAxis::new(-100, 100, 2)?,
+        height: EvenAxis::new(-50, 100, 1)?,
+        column: ListedAxis::new(&[-200, 0, 200])?,
+        row: ListedAxis::new(&[-100, 100])?,
+    })
+}
+
 fn drafted() -> Result<Draft, Refusal> {
-    let x = EvenAxis::new(-100, 100, 2)?;
-    let y = EvenAxis::new(-100, 100, 2)?;
-    let z = EvenAxis::new(-50, 100, 1)?;
-    let column = ListedAxis::new(&[-200, 0, 200])?;
-    let row = ListedAxis::new(&[-100, 100])?;
-    Draft::new(1000, 2000, &x, &y, &z, &column, &row)
+    let Axes {
+        across,
+        height,
+        column,
+        row,
+    } = small_axes()?;
+    Draft::new(1000, 2000, &across, &across, &height, &column, &row)
+}
+
+// A draft whose steps are places in a list of directions.
+fn turned(directions: &[Heading]) -> Result<Draft, Refusal> {
+    let Axes {
+        across,
+        height,
+        column,
+        row,
+    } = small_axes()?;
+    Draft::with_directions(
+        1000, 2000, &across, &across, &height, &column, &row, directions,
+    )
 }
 
 // Seen along y, and after a quarter turn along x.
@@ -34,6 +66,25 @@ fn planned() -> Result<Plan, Refusal> {
     let mut draft = drafted()?;
     draft.add_view(0)?;
     draft.add_view(16)?;
+    Ok(draft.seal())
+}
+
+// Seen at 0, 11.25 and 30 degrees: c and s are 16384 times the cosine and the sine, to the nearest whole number.
+fn planned_at_angles() -> Result<Plan, Refusal> {
+    let mut draft = turned(&[
+        Heading { c: 16_384, s: 0 },
+        Heading {
+            c: 16_069,
+            s: 3_196,
+        },
+        Heading {
+            c: 14_189,
+            s: 8_192,
+        },
+    ])?;
+    for step in 0..3 {
+        draft.add_view(step)?;
+    }
     Ok(draft.seal())
 }
 
@@ -136,12 +187,40 @@ fn print_row(rt: &impl Print, view: usize, row: usize, cells: &[Count]) -> io::R
     Ok(())
 }
 
-fn print_outcome(rt: &impl Print, outcome: &Outcome) -> io::Result<()> {
-    let views = outcome.plan.views();
-    let rows = outcome.plan.cells_along(ScanAxis::Row);
-    let columns = outcome.plan.cells_along(ScanAxis::Column);
+fn print_shadow(rt: &impl Print, plan: &Plan, cells: &[Count]) -> io::Result<()> {
+    let views = plan.views();
+    let rows = plan.cells_along(ScanAxis::Row);
+    let columns = plan.cells_along(ScanAxis::Column);
     println!(rt; "views {views} rows {rows} columns {columns}")?;
-    print_cells(rt, &outcome.plan, &outcome.cells)?;
+    print_cells(rt, plan, cells)
+}
+
+// What is told of a list of directions of which one does not lie near the circle.
+fn print_refused(rt: &impl Print, refusal: Refusal) -> io::Result<()> {
+    match refusal {
+        Refusal::OffCircle { direction, heading } => {
+            let Heading { c, s } = heading;
+            println!(rt; "Direction {direction} of a list, c {c} and s {s}: {refusal}.")
+        }
+        _ => println!(rt; "A list of directions: {refusal}."),
+    }
+}
+
+fn print_at_angles(rt: &impl Print, heap: Global) -> Result<()> {
+    if let Err(refusal) = turned(&[Heading { c: 16_384, s: 0 }, Heading { c: 16_385, s: 0 }]) {
+        print_refused(rt, refusal)?;
+    }
+    println!(rt;
+        "Views at 0, 11.25 and 30 degrees, from a list of three directions. Forward from ones as Count:"
+    )?;
+    let plan = planned_at_angles().context("The plan of three angles")?;
+    let cells = shadow(heap, &plan).context("Forward")?;
+    print_shadow(rt, &plan, &cells)?;
+    Ok(())
+}
+
+fn print_outcome(rt: &impl Print, outcome: &Outcome) -> io::Result<()> {
+    print_shadow(rt, &outcome.plan, &outcome.cells)?;
     println!(rt; "hit {}", outcome.hit)?;
     print!(rt; "image")?;
     for voxel in &outcome.image {
@@ -164,5 +243,6 @@ fn main(rt: HostRuntime) -> Result<()> {
     )?;
     let outcome = project(rt.alloc())?;
     print_outcome(&rt, &outcome)?;
+    print_at_angles(&rt, rt.alloc())?;
     Ok(())
 }
