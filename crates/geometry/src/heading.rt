@@ -3,16 +3,16 @@ ghost use Rattle.std.specs.Prelude.{◌≡◌};
 ghost use Rattle.geometry.specs.Circle.{off_circle, is_accepted};
 ghost use Rattle.geometry.specs.Directions.{DirectionOf};
 
-use crate::direction::{Direction, SlabAxis};
+use crate::direction::{Direction, R, SlabAxis};
 
-// The square of the unit of sines and cosines, 2^28.
-const CIRCLE: u64 = 268_435_456;
+// R², the 2^28 near which c² + s² of an accepted heading lies.
+const CIRCLE: u64 = (R * R) as u64;
 
-// By how much c² + s² of an accepted heading may differ from it.
+// By how much it may be off.
 const MOST_OFF_CIRCLE: u64 = 32_768;
 
-/// The cosine c and the sine s of a direction, counted counter-clockwise from the y axis, in 16384ths: any two numbers. Of a
-/// list that someone measured, nothing is known until `is_accepted` says that c² + s² lies near 2^28.
+/// A direction as the cosine c and the sine s of its angle, counted counter-clockwise from the y axis, in 16384ths. They may be
+/// any two numbers; `is_accepted` says whether they lie near enough to the circle.
 #[derive(Clone, Copy, PartialEq, Eq, Debug, Default)]
 pub struct Heading {
     pub c: i32,
@@ -36,8 +36,8 @@ impl Heading {
         self.off_circle() <= MOST_OFF_CIRCLE
     }
 
-    /// The direction of an accepted heading: its slab axis, and the a and b that go with it, in 16384ths; none of another.
-    /// Defined by `slab_axis`, `main_of` and `side_of` of specs/Directions.
+    /// The slab axis of an accepted heading, and the a and b that go with it, in 16384ths; none of another. Defined by
+    /// `DirectionOf` of specs/Directions.
     pub fn direction(self) -> Option<Direction>
         ensures { DirectionOf self result }
     {

@@ -7,7 +7,7 @@ pub const STEPS: usize = 64;
 /// The last of the steps 0 to 63.
 pub const LAST_STEP: i32 = 63;
 
-/// One of the 64 equal steps of a whole turn. A byte, since a plan keeps up to 1,024 of them in place.
+/// One of the 64 equal steps of the turn table.
 #[derive(Clone, Copy, PartialEq, Eq, Debug)]
 pub struct Step {
     pub number: u8,

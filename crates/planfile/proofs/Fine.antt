@@ -12,7 +12,7 @@ use Rattle.geometry.specs.Circle.{is_accepted}
 use Rattle.geometry.specs.declared.heading.Heading.{Heading}
 use Rattle.geometry.proofs.Circles.{accepted_within}
 use Rattle.scan.specs.DraftChecks.{distances_check, source_check, columns_check, first_off_circle}
-use Rattle.scan.specs.Turning.{heading_or_zero, Turning}
+use Rattle.scan.specs.ViewDirections.{heading_or_zero, AllAccepted}
 use Rattle.scan.specs.Limits.{SourceClear, ColumnsNearer}
 use Rattle.scan.specs.Numbered.{edge_at}
 use Rattle.scan.specs.declared.refusal.Refusal.TheVariants.{NotRising, OutOfRange}
@@ -74,8 +74,8 @@ pub steps_small : (directions : ℕ) (steps : List ℕ) → directions ≤ 1024 
 steps_small directions steps few below i = let low = below i in rw (step_is steps i) (omega arith)
 
 -- nothing is found of a list of directions
-pub headings_fine : (hs : List Heading) → Turning hs → first_off_circle hs ≡ None
-headings_fine hs turning = first_none_is _ (length hs) (λ i l. ap not (turning.accepted i l))
+pub headings_fine : (hs : List Heading) → AllAccepted hs → first_off_circle hs ≡ None
+headings_fine hs all = first_none_is _ (length hs) (λ i l. ap not (all.accepted i l))
 
 -- the numbers of accepted headings fit
 pub headings_small : (hs : List Heading) → ((i : ℕ) → i < length hs → is_accepted (heading_or_zero hs i) ≡ true) → Small (numbers_of hs)

@@ -1,5 +1,5 @@
 -- Bytes that are the same up to a place: the same is found of them before that place.
-use Rattle.std.specs.Prelude.{◌≡◌, ℕ, suc, ◌+◌, ◌*◌, ◌%◌, ◌<◌, ◌≤◌, ◌==◌, not, List, length, ℤ, pos, take, Option, nat_lt, slice_index, slice_index_or}
+use Rattle.std.specs.Prelude.{◌≡◌, ℕ, suc, ◌+◌, ◌*◌, ◌<◌, ◌≤◌, List, length, ℤ, pos, take, Option, nat_lt, slice_index, slice_index_or}
 use Rattle.std.specs.Int.{w32, cast_signed}
 use Rattle.std.specs.Option.{option_or, option_map}
 use Rattle.std.proofs.Common.{refl, sym, ap, ◌∙◌, arith}
@@ -10,12 +10,12 @@ use Rattle.std.proofs.lemmas.List.FromFn.{fill_by_all}
 use Rattle.scan.specs.AxisChecks.{count_check, edges_check}
 use Rattle.scan.specs.DraftChecks.{distances_check}
 use Rattle.scan.specs.Verdicts.{refused_where}
-use Rattle.scan.specs.declared.refusal.Refusal.TheVariants.{NotMultiple, StepOutOfRange}
+use Rattle.scan.specs.declared.refusal.Refusal.TheVariants.{StepOutOfRange}
 use Rattle.scan.proofs.Propers.{count_within}
 use Rattle.planfile.specs.Numbers.{count_at, number_at, numbers_from}
 use Rattle.planfile.specs.Sections.{place_of, section_at, end_of, start}
 use Rattle.planfile.specs.Faults.{refused_at}
-use Rattle.planfile.specs.FileChecks.{whole_check, numbers_check, section_check, refused_in, distances_section, axis_section, even_check, circle_check, directions_section, directions_in, first_no_step, steps_section, clearance, axes_check, plan_check, voxels_check}
+use Rattle.planfile.specs.FileChecks.{whole_check, limits_check, numbers_check, section_check, even_check, pairs_check, refused_in, distances_section, axis_section, circle_check, directions_section, direction_count_in, first_no_step, steps_section, clearance, axes_check, plan_check, voxels_check}
 use Rattle.planfile.specs.Pairs.{headings_in}
 use Rattle.planfile.specs.Plans.{scan_in}
 use Rattle.planfile.specs.declared.fault.Fault.{Fault}
@@ -115,6 +115,10 @@ module _ {n : ℕ} {bytes other : List ℕ} (front : SameFront n bytes other) wh
     known = λ none. (count_within (count_at bytes p) least most (map_none (refused_at p) _ none)).1;
   }
 
+  -- so is a count that is not whole
+  limits_agree : (p least most : ℕ) → p + 4 ≤ n → Agree (limits_check bytes p least most) (limits_check other p least most) (count_at bytes p ≤ most)
+  limits_agree p least most l = and_then _ _ (wholes_agree p l) (λ _. counts_agree p least most l)
+
   -- numbers in the front are whole in both
   numbers_agree : (p least most : ℕ) → place_of p most ≤ n → count_at bytes p ≤ most
       → Agree (numbers_check bytes (p + 4) (count_at bytes p)) (numbers_check other (p + 4) (count_at other p)) (SameSection bytes other p most)
@@ -127,8 +131,7 @@ module _ {n : ℕ} {bytes other : List ℕ} (front : SameFront n bytes other) wh
   -- the check of a section that lies in the front, if it has at most so many numbers, finds the same
   sections_agree : (p least most : ℕ) → place_of p most ≤ n → Agree (section_check bytes p least most) (section_check other p least most) (SameSection bytes other p most)
   unfolding section_check
-  sections_agree p least most l =
-      and_then _ _ (wholes_agree p (omega arith)) (λ _. and_then _ _ (counts_agree p least most (omega arith)) (numbers_agree p least most l))
+  sections_agree p least most l = and_then _ _ (limits_agree p least most (omega arith)) (numbers_agree p least most l)
 
   -- so does a further check of its numbers
   contents_agree : (check : List ℤ → Option Fault) (p least most : ℕ) → place_of p most ≤ n
@@ -157,14 +160,18 @@ module _ {n : ℕ} {bytes other : List ℕ} (front : SameFront n bytes other) wh
   unfolding axis_section
   axis_agrees p l = contents_agree (λ zs. option_map (refused_in p) (edges_check zs)) p 2 513 l
 
-  -- a count in the front is even in both, or is refused in both
-  evens_agree : (p : ℕ) → p + 4 ≤ n → Agree (even_check bytes p) (even_check other p) (Unit {0})
-  evens_agree p l = and_then _ _ (wholes_agree p l) (λ _. record { same = ap (λ k. refused_where (not (k % 2 == 0)) (refused_at p (NotMultiple k 2))) (count_same p l); known = λ _. tt })
+  -- so does that of a section of pairs
+  pairs_agree : (p most : ℕ) → place_of p most ≤ n → Agree (pairs_check bytes p most) (pairs_check other p most) (SameSection bytes other p most)
+  unfolding pairs_check
+  pairs_agree p most l =
+      and_then _ _ (limits_agree p 0 most (omega arith)) (λ few.
+      and_then _ _ (record { same = ap (λ k. option_map (refused_at p) (even_check k)) (count_same p (omega arith)); known = λ _. few }) (numbers_agree p 0 most l))
 
   -- the check of the section of the directions finds the same
   directions_agree : (p : ℕ) → place_of p 2048 ≤ n → Agree (directions_section bytes p) (directions_section other p) (SameSection bytes other p 2048)
   unfolding directions_section
-  directions_agree p l = and_then _ _ (evens_agree p (omega arith)) (λ _. contents_agree (λ zs. circle_check p (headings_in zs)) p 0 2048 l)
+  directions_agree p l =
+      and_then _ _ (pairs_agree p 2048 l) (λ section. record { same = ap (λ zs. circle_check p (headings_in zs)) section.numbers; known = λ _. section })
 
   -- the check of the section of the steps finds the same, where there are as many directions
   steps_agree : (directions p : ℕ) → place_of p 1024 ≤ n → Agree (steps_section bytes p directions) (steps_section other p directions) (SameSection bytes other p 1024)
@@ -216,9 +223,9 @@ module _ {n : ℕ} {bytes other : List ℕ} (front : SameFront n bytes other) (l
       rw (axes.distances.numbers, axes.x.numbers, axes.y.numbers, axes.z.numbers, axes.column.numbers, axes.row.numbers, directions.numbers, steps.numbers) refl
 
   -- the check of the steps finds the same once the directions are
-  steps_at : {bound : ℕ} → place_of bound 1024 ≤ n → Passed bytes other 6 bound → Agree (steps_section bytes (start bytes 7) (directions_in bytes)) (steps_section other (start other 7) (directions_in other)) (Passed bytes other 7 (place_of bound 1024))
+  steps_at : {bound : ℕ} → place_of bound 1024 ≤ n → Passed bytes other 6 bound → Agree (steps_section bytes (start bytes 7) (direction_count_in bytes)) (steps_section other (start other 7) (direction_count_in other)) (Passed bytes other 7 (place_of bound 1024))
   steps_at {bound} l directions =
-      rw (← directions.numbers) (at_start front (λ some at. steps_section some at (directions_in bytes)) 7 bound 1024 (steps_agree front (directions_in bytes)) l directions.next)
+      rw (← directions.numbers) (at_start front (λ some at. steps_section some at (direction_count_in bytes)) 7 bound 1024 (steps_agree front (direction_count_in bytes)) l directions.next)
 
   -- the check of a plan finds the same where the front takes in so much, since the directions have at most 8,196 bytes and the steps 4,100
   pub plans_agree : Agree (plan_check bytes) (plan_check other) (SamePlan bytes other)

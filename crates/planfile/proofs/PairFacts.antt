@@ -3,7 +3,7 @@ use Rattle.std.specs.Prelude.{◌≡◌, ℕ, zero, suc, ◌+◌, ◌*◌, ◌/�
 use Rattle.std.proofs.Common.{refl, sym, ap, ap₂, ◌∙◌, arith}
 use Rattle.geometry.specs.declared.heading.Heading.{Heading}
 use Rattle.scan.specs.AxisChecks.{edge_or_zero}
-use Rattle.scan.specs.Turning.{directions_of, heading_or_zero}
+use Rattle.scan.specs.ViewDirections.{direction_count, heading_or_zero}
 use Rattle.planfile.specs.Pairs.{headings_in, numbers_of}
 
 -- half as many headings as numbers
@@ -28,7 +28,7 @@ heading_is (c ∷ s ∷ zs) (suc i) l =
     heading_is zs i (omega arith) ∙ ap₂ (λ (k n : ℕ). record { c = edge_or_zero (c ∷ s ∷ zs) k; s = edge_or_zero (c ∷ s ∷ zs) n }) (sym even) (sym odd)
 
 -- there are at most as many directions as a list may have
-pub directions_few : (n : ℕ) → n ≤ 1024 → directions_of n ≤ 1024
+pub directions_few : (n : ℕ) → n ≤ 1024 → direction_count n ≤ 1024
 directions_few zero l = omega arith
 directions_few (suc n) l = omega arith
 

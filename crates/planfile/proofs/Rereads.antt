@@ -1,20 +1,19 @@
 -- A scan that is written is read again.
-use Rattle.std.specs.Prelude.{◌≡◌, ℕ, ◌%◌, ◌^◌, ◌<◌, ◌≤◌, List, [], ◌∷◌, ◌++◌, map, length, ℤ, pos, drop, None, slice_index_or, unsigned_abs}
+use Rattle.std.specs.Prelude.{◌≡◌, ℕ, ◌^◌, ◌<◌, ◌≤◌, List, [], ◌∷◌, ◌++◌, map, length, ℤ, pos, drop, None, slice_index_or, unsigned_abs}
 use Rattle.std.proofs.Common.{refl, arith, ap, ◌∙◌}
 use Rattle.std.proofs.lemmas.List.{length-map}
 use Rattle.scan.specs.Axes.{Proper}
 use Rattle.scan.specs.Limits.{Fitted}
 use Rattle.scan.specs.Scans.{Scan}
-use Rattle.scan.specs.Turning.{directions_of}
-use Rattle.planfile.specs.Numbers.{count_at}
+use Rattle.scan.specs.ViewDirections.{direction_count}
 use Rattle.planfile.specs.Sections.{section_at, start, entry}
 use Rattle.planfile.specs.Pairs.{headings_in, numbers_of}
-use Rattle.planfile.specs.FileChecks.{refused_in, distances_section, axis_section, directions_section, directions_in, steps_section, clearance, axes_check, plan_check}
+use Rattle.planfile.specs.FileChecks.{refused_in, distances_section, axis_section, directions_section, direction_count_in, steps_section, clearance, axes_check, plan_check}
 use Rattle.planfile.specs.Plans.{scan_in}
 use Rattle.planfile.specs.Written.{section_bytes, written}
 use Rattle.planfile.proofs.Nones.{none_or, none_map}
 use Rattle.planfile.proofs.SectionFacts.{Stands, section_again}
-use Rattle.planfile.proofs.SectionChecks.{section_passes, even_passes}
+use Rattle.planfile.proofs.SectionChecks.{section_passes, pairs_pass}
 use Rattle.planfile.proofs.PairFacts.{numbers_many, headings_back, directions_few}
 use Rattle.planfile.proofs.Parts.{distances_of, from_x, from_y, from_z, from_column, from_row, from_directions, from_steps, by_sections}
 use Rattle.planfile.proofs.Fine.{edges_fine, distances_fine, source_fine, columns_fine, steps_fine, headings_fine, edges_small, distances_small, steps_small, headings_small}
@@ -59,10 +58,10 @@ module _ (scan : Scan) (fit : Fitted scan) (bytes rest : List ℕ) where
       let s3 : Stands bytes (start bytes 3) scan.z (from_column scan rest) = axis_again scan.z bytes (start bytes 3) (from_column scan rest) fit.z s2.after in
       let s4 : Stands bytes (start bytes 4) scan.column (from_row scan rest) = axis_again scan.column bytes (start bytes 4) (from_row scan rest) fit.column s3.after in
       let s5 : Stands bytes (start bytes 5) scan.row (from_directions scan rest) = axis_again scan.row bytes (start bytes 5) (from_directions scan rest) fit.row s4.after in
-      let listed : length (numbers_of scan.directions) < 2 ^ 32 = omega (arith, fit.turning.most, numbers_many scan.directions) in
-      let s6 : Stands bytes (start bytes 6) (numbers_of scan.directions) (from_steps scan rest) = section_again (numbers_of scan.directions) bytes (start bytes 6) (from_steps scan rest) listed (headings_small scan.directions fit.turning.accepted) s5.after in
+      let listed : length (numbers_of scan.directions) < 2 ^ 32 = omega (arith, fit.accepted.most, numbers_many scan.directions) in
+      let s6 : Stands bytes (start bytes 6) (numbers_of scan.directions) (from_steps scan rest) = section_again (numbers_of scan.directions) bytes (start bytes 6) (from_steps scan rest) listed (headings_small scan.directions fit.accepted.accepted) s5.after in
       let few : length (map pos scan.steps) < 2 ^ 32 = omega (arith, fit.views, length-map scan.steps pos) in
-      let s7 : Stands bytes (start bytes 7) (map pos scan.steps) rest = section_again (map pos scan.steps) bytes (start bytes 7) rest few (steps_small (directions_of (length scan.directions)) scan.steps (directions_few (length scan.directions) fit.turning.most) fit.steps) s6.after in
+      let s7 : Stands bytes (start bytes 7) (map pos scan.steps) rest = section_again (map pos scan.steps) bytes (start bytes 7) rest few (steps_small (direction_count (length scan.directions)) scan.steps (directions_few (length scan.directions) fit.accepted.most) fit.steps) s6.after in
       record { distances = s0; x = s1; y = s2; z = s3; column = s4; row = s5; directions = s6; steps = s7 }
 
   -- an entry of the distances
@@ -93,18 +92,16 @@ module _ (scan : Scan) (fit : Fitted scan) (bytes rest : List ℕ) where
   unfolding directions_section
   directions_pass l =
       let many = numbers_many scan.directions in
-      let even : count_at bytes (start bytes 6) % 2 ≡ 0 = omega (arith, l.directions.count, many) in
-      none_or (even_passes l.directions even)
-      (none_or (section_passes 0 2048 l.directions (omega arith) (omega (arith, fit.turning.most, many)))
-      (none_map _ (rw (directions_are l) (headings_fine scan.directions fit.turning))))
+      none_or (pairs_pass 2048 l.directions (omega (arith, many)) (omega (arith, fit.accepted.most, many)))
+      (none_map _ (rw (directions_are l) (headings_fine scan.directions fit.accepted)))
 
   -- nothing is found of the steps
-  steps_pass : Laid → steps_section bytes (start bytes 7) (directions_in bytes) ≡ None
+  steps_pass : Laid → steps_section bytes (start bytes 7) (direction_count_in bytes) ≡ None
   unfolding steps_section
   steps_pass l =
       let few : length (map pos scan.steps) ≤ 1024 = omega (arith, fit.views, length-map scan.steps pos) in
       rw (directions_are l)
-      (none_or (section_passes 0 1024 l.steps (omega arith) few) (none_map _ (rw l.steps.numbers (steps_fine (directions_of (length scan.directions)) scan.steps fit.steps))))
+      (none_or (section_passes 0 1024 l.steps (omega arith) few) (none_map _ (rw l.steps.numbers (steps_fine (direction_count (length scan.directions)) scan.steps fit.steps))))
 
   -- nothing is found of the plan
   nothing : Laid → plan_check bytes ≡ None

@@ -3,14 +3,14 @@ use Rattle.std.specs.Prelude.{◌≡◌, ℕ, suc, ◌%◌, ◌<◌, false, List
 use Rattle.std.proofs.Common.{refl, arith, ap, sym, ◌∙◌}
 use Rattle.scan.proofs.Firsts.{first_none}
 use Rattle.planfile.specs.Sections.{section_at, entry, end_of, start}
-use Rattle.planfile.specs.FileChecks.{axes_check, section_check, even_check, distances_section, axis_section, directions_section, directions_in, steps_section, clearance, plan_check, first_no_step}
+use Rattle.planfile.specs.FileChecks.{axes_check, section_check, pairs_check, distances_section, axis_section, directions_section, direction_count_in, steps_section, clearance, plan_check, first_no_step}
 use Rattle.planfile.specs.Pairs.{headings_in, numbers_of}
 use Rattle.planfile.specs.Plans.{scan_in}
 use Rattle.planfile.specs.Written.{section_bytes, written}
 use Rattle.planfile.proofs.FourBytes.{AreBytes}
 use Rattle.planfile.proofs.Nones.{first_nothing, second_nothing, map_none}
 use Rattle.planfile.proofs.SectionFacts.{section_count, section_takes}
-use Rattle.planfile.proofs.SectionChecks.{section_known, even_known}
+use Rattle.planfile.proofs.SectionChecks.{section_known, pairs_known}
 use Rattle.planfile.proofs.PairFacts.{numbers_back}
 use Rattle.planfile.proofs.Parts.{distances_of, from_x, by_sections}
 
@@ -58,9 +58,9 @@ module _ (bytes : List ℕ) (fits : AreBytes bytes) where
   directions_spelled : (p : ℕ) → directions_section bytes p ≡ None → drop p bytes ≡ section_bytes (numbers_of (headings_in (section_at bytes p))) ++ drop (end_of bytes p) bytes
   unfolding directions_section
   directions_spelled p e =
-      let checked = first_nothing (section_check bytes p 0 2048) _ (second_nothing (even_check bytes p) _ e) in
-      let even : length (section_at bytes p) % 2 ≡ 0 = rw (section_count bytes p) (even_known bytes p (first_nothing (even_check bytes p) _ e)) in
-      rw (numbers_back (section_at bytes p) even) (section_spelled p 0 2048 checked)
+      let checked = pairs_known bytes p 2048 (first_nothing (pairs_check bytes p 2048) _ e) in
+      let even : length (section_at bytes p) % 2 ≡ 0 = rw (section_count bytes p) checked.1 in
+      rw (numbers_back (section_at bytes p) even) (section_spelled p 0 2048 checked.0)
 
   -- so are the steps, which are not negative
   steps_spelled : (p directions : ℕ) → steps_section bytes p directions ≡ None → drop p bytes ≡ section_bytes (map pos (map unsigned_abs (section_at bytes p))) ++ drop (end_of bytes p) bytes
@@ -89,7 +89,7 @@ module _ (bytes : List ℕ) (fits : AreBytes bytes) where
       let column = axis_spelled (start bytes 4) (first_nothing _ _ column_on) in
       let row = axis_spelled (start bytes 5) row_on in
       let directions = directions_spelled (start bytes 6) (first_nothing _ _ directions_on) in
-      let steps = steps_spelled (start bytes 7) (directions_in bytes) (second_nothing (directions_section bytes (start bytes 6)) _ directions_on) in
+      let steps = steps_spelled (start bytes 7) (direction_count_in bytes) (second_nothing (directions_section bytes (start bytes 6)) _ directions_on) in
       let scan = scan_in bytes in
       followed (distances_of scan) distances (followed scan.x x (followed scan.y y (followed scan.z z (followed scan.column column (followed scan.row row (followed (numbers_of scan.directions) directions steps))))))
 

@@ -6,7 +6,7 @@ use Rattle.scan.specs.Verdicts.{refused_where, first_where}
 use Rattle.scan.specs.Refusals.{place as edge_number}
 use Rattle.scan.specs.AxisChecks.{edge_or_zero, count_check, edges_check}
 use Rattle.scan.specs.DraftChecks.{distances_check, source_check, columns_check, first_off_circle, no_step}
-use Rattle.scan.specs.Turning.{directions_of, heading_or_zero}
+use Rattle.scan.specs.ViewDirections.{direction_count, heading_or_zero}
 use Rattle.scan.specs.declared.refusal.Refusal.{Refusal}
 use Rattle.scan.specs.declared.refusal.Refusal.TheVariants.{NotMultiple, OffCircle, StepOutOfRange, StoreLength}
 use Rattle.scan.specs.declared.refusal.Store.TheVariants.{Volume}
@@ -25,11 +25,23 @@ whole_check bytes p = refused_where (nat_lt (length bytes) (p + 4)) (Incomplete 
 abbrev pub numbers_check : List ℕ → ℕ → ℕ → Option Fault
 numbers_check bytes p n = option_map (λ i. Incomplete (p + 4 * i)) (first_where (λ i. nat_lt (length bytes) (p + 4 * i + 4)) n)
 
+-- 1 for the count of the section at place p, and then 2 for a count outside these limits.
+abbrev pub limits_check : List ℕ → ℕ → ℕ → ℕ → Option Fault
+limits_check bytes p least most = option_or (whole_check bytes p) (option_map (refused_at p) (count_check (count_at bytes p) least most))
+
 -- Of the section at place p, whose count has these limits, 1 is checked for its count, 2 for a count outside the limits, and 1 for its numbers.
 unfoldable pub section_check : List ℕ → ℕ → ℕ → ℕ → Option Fault
-section_check bytes p least most =
-    option_or (whole_check bytes p)
-    (option_or (option_map (refused_at p) (count_check (count_at bytes p) least most)) (numbers_check bytes (p + 4) (count_at bytes p)))
+section_check bytes p least most = option_or (limits_check bytes p least most) (numbers_check bytes (p + 4) (count_at bytes p))
+
+-- 2 for an odd count, of numbers that go two by two.
+abbrev pub even_check : ℕ → Option Refusal
+even_check found = refused_where (not (found % 2 == 0)) (NotMultiple found 2)
+
+-- Of the section at place p, whose numbers go two by two, 1 is checked for its count, 2 for a count above the most, 2 for an odd one, and 1 for its numbers.
+unfoldable pub pairs_check : List ℕ → ℕ → ℕ → Option Fault
+pairs_check bytes p most =
+    option_or (limits_check bytes p 0 most)
+    (option_or (option_map (refused_at p) (even_check (count_at bytes p))) (numbers_check bytes (p + 4) (count_at bytes p)))
 
 -- The fault of a refusal, at the edge or the distance that it names, of the section that begins at place p.
 abbrev pub refused_in : ℕ → Refusal → Fault
@@ -44,27 +56,19 @@ distances_section bytes p =
 unfoldable pub axis_section : List ℕ → ℕ → Option Fault
 axis_section bytes p = option_or (section_check bytes p 2 513) (option_map (refused_in p) (edges_check (section_at bytes p)))
 
--- Of the section at place p, whose numbers go two by two, 1 is checked for its count, and 2 for an odd one.
-abbrev pub even_check : List ℕ → ℕ → Option Fault
-even_check bytes p =
-    option_or (whole_check bytes p)
-    (refused_where (not (count_at bytes p % 2 == 0)) (refused_at p (NotMultiple (count_at bytes p) 2)))
-
--- 11 for the first heading of a list, whose section begins at place p, that is not accepted, at its c.
+-- 11 for the first heading that is not accepted, at its c, where their section begins at place p.
 abbrev pub circle_check : ℕ → List Heading → Option Fault
 circle_check p hs = option_map (λ i. refused_at (place_of p (2 * i)) (OffCircle i (heading_or_zero hs i))) (first_off_circle hs)
 
 -- The section of the directions has an even count of 0 to 2,048 numbers, of whose headings then 11 is checked.
 unfoldable pub directions_section : List ℕ → ℕ → Option Fault
-directions_section bytes p =
-    option_or (even_check bytes p)
-    (option_or (section_check bytes p 0 2048) (circle_check p (headings_in (section_at bytes p))))
+directions_section bytes p = option_or (pairs_check bytes p 2048) (circle_check p (headings_in (section_at bytes p)))
 
--- How many directions a step of the file is one of: those of their section, or the 64 of the turn table.
-abbrev pub directions_in : List ℕ → ℕ
-directions_in bytes = directions_of (length (headings_in (section_at bytes (start bytes 6))))
+-- How many directions there are in a file: those of their section, or the 64 of the turn table.
+abbrev pub direction_count_in : List ℕ → ℕ
+direction_count_in bytes = direction_count (length (headings_in (section_at bytes (start bytes 6))))
 
--- The first number of a list that is no step, where there are so many directions.
+-- The first of some numbers that is no step, where there are so many directions.
 abbrev pub first_no_step : ℕ → List ℤ → Option ℕ
 first_no_step directions zs = first_where (λ i. no_step directions (edge_or_zero zs i)) (length zs)
 
@@ -94,7 +98,7 @@ unfoldable pub plan_check : List ℕ → Option Fault
 plan_check bytes =
     option_or (axes_check bytes)
     (option_or (clearance bytes)
-    (option_or (directions_section bytes (start bytes 6)) (steps_section bytes (start bytes 7) (directions_in bytes))))
+    (option_or (directions_section bytes (start bytes 6)) (steps_section bytes (start bytes 7) (direction_count_in bytes))))
 
 -- Of the values of n voxels, whose section begins at place p, 1 is checked for their count, 2 for a count other than n, 1 for the values, and 3 for bytes that follow.
 abbrev pub voxels_check : List ℕ → ℕ → ℕ → Option Fault

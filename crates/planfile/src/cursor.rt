@@ -2,7 +2,7 @@ ghost use Rattle.std.specs.Prelude.{◌≡◌, ◌+◌, ◌-◌, ◌*◌, ◌^�
 ghost use Rattle.scan.specs.Verdicts.{Verdict};
 ghost use Rattle.planfile.specs.Numbers.{count_at, numbers_from, numbers_in};
 ghost use Rattle.planfile.specs.Sections.{section_at, end_of};
-ghost use Rattle.planfile.specs.FileChecks.{whole_check, numbers_check, section_check, even_check};
+ghost use Rattle.planfile.specs.FileChecks.{whole_check, limits_check, numbers_check, section_check, even_check, pairs_check};
 
 use crate::fault::Fault;
 use crate::numbers::{Numbers, unsigned_at};
@@ -10,6 +10,16 @@ use crate::placed::Placed;
 use crate::section::Section;
 use scan::edges::check_count;
 use scan::refusal::Refusal;
+
+// Refuses an odd count of numbers that go two by two (2).
+fn check_even(found: usize) -> Result<(), Refusal>
+    ensures { Verdict (even_check found) (λ _. Unit {0}) result }
+{
+    if found % 2 != 0 {
+        return Err(Refusal::NotMultiple { found, of: 2 });
+    }
+    Ok(())
+}
 
 // Lent bytes, and how far they are read. What is read is never copied.
 #[derive(Clone, Copy)]
@@ -62,6 +72,20 @@ impl<'a> Cursor<'a> {
         })
     }
 
+    // Reads a count within its limits (1, 2).
+    #[tactic(auto, using(std::proofs::lemmas::Result::err_from_is_err_and))]
+    fn limited(&mut self, least: usize, most: usize) -> Result<usize, Fault>
+        ensures answer { let b = self.old.bytes.now in let p = self.old.offset in
+            Verdict (limits_check b p least most) (λ n. (n ≡ count_at b p) × (p + 4 ≤ length b)) result }
+        ensures bytes { self.new.bytes.now ≡ self.old.bytes.now }
+        ensures moved { OnOk result (self.new.offset ≡ self.old.offset + 4) }
+    {
+        let place = self.offset;
+        let found = self.count()?;
+        check_count(found, least, most).map_err(|refusal| Placed { refusal, place })?;
+        Ok(found)
+    }
+
     // Reads a section of a count within its limits (1, 2, 1).
     #[tactic(auto, using(std::proofs::lemmas::Result::err_from_is_err_and), unfolding(crate::specs::FileChecks::section_check, crate::specs::Sections::section_at, crate::specs::Sections::end_of))]
     pub(crate) fn section(&mut self, least: usize, most: usize) -> Result<Section<'a>, Fault>
@@ -71,28 +95,26 @@ impl<'a> Cursor<'a> {
         ensures moved { OnOk result (self.new.offset ≡ end_of self.old.bytes.now self.old.offset) }
     {
         let start = self.offset;
-        let found = self.count()?;
-        check_count(found, least, most).map_err(|refusal| Placed {
+        let found = self.limited(least, most)?;
+        let numbers = self.numbers(found)?;
+        Ok(Section { start, numbers })
+    }
+
+    // Reads a section of an even count within its limit (1, 2, 2, 1).
+    #[tactic(auto, using(std::proofs::lemmas::Result::err_from_is_err_and), unfolding(crate::specs::FileChecks::pairs_check, crate::specs::Sections::section_at, crate::specs::Sections::end_of))]
+    pub(crate) fn pairs(&mut self, most: usize) -> Result<Section<'a>, Fault>
+        ensures answer { let b = self.old.bytes.now in let p = self.old.offset in
+            Verdict (pairs_check b p most) (λ section. (section.start ≡ p) × (numbers_in section.numbers.bytes.now ≡ section_at b p) × (end_of b p ≤ length b) × (end_of b p < 2 ^ 64)) result }
+        ensures bytes { self.new.bytes.now ≡ self.old.bytes.now }
+        ensures moved { OnOk result (self.new.offset ≡ end_of self.old.bytes.now self.old.offset) }
+    {
+        let start = self.offset;
+        let found = self.limited(0, most)?;
+        check_even(found).map_err(|refusal| Placed {
             refusal,
             place: start,
         })?;
         let numbers = self.numbers(found)?;
         Ok(Section { start, numbers })
-    }
-
-    // Checks that the section that comes next has a count (1), and an even one (2). Reads nothing.
-    pub(crate) fn check_even(&self) -> Result<(), Fault>
-        ensures { Verdict (even_check self.now.bytes.now self.now.offset) (λ _. Unit {0}) result }
-    {
-        let mut ahead = *self;
-        let found = ahead.count()?;
-        if found % 2 != 0 {
-            let refusal = Refusal::NotMultiple { found, unit: 2 };
-            return Err(Fault::from(Placed {
-                refusal,
-                place: self.offset,
-            }));
-        }
-        Ok(())
     }
 }

@@ -10,7 +10,7 @@ use scan::directions::Headings;
 impl Headings for Numbers<'_> {
     ghost headings = { λ numbers. headings_in (numbers_in numbers.bytes.now) };
 
-    fn many(&self) -> usize {
+    fn count(&self) -> usize {
         self.len() / 2
     }
 

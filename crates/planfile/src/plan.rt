@@ -3,7 +3,7 @@ ghost use Rattle.std.specs.Prelude.{◌≡◌, ◌+◌, ◌≤◌, ℕ, List, le
 ghost use Rattle.scan.specs.Limits.{Fitted};
 ghost use Rattle.scan.specs.Meanings.{draft_of, plan_of};
 ghost use Rattle.scan.specs.Scans.{Scan, with_views};
-ghost use Rattle.scan.specs.Turning.{directions_of};
+ghost use Rattle.scan.specs.ViewDirections.{direction_count};
 ghost use Rattle.scan.specs.Verdicts.{Verdict};
 ghost use Rattle.planfile.specs.Numbers.{numbers_in};
 ghost use Rattle.planfile.specs.Sections.{start};
@@ -14,14 +14,14 @@ ghost use Rattle.planfile.specs.Plans.{scan_in};
 use crate::cursor::Cursor;
 use crate::fault::Fault;
 use crate::numbers::Numbers;
-use scan::directions::{Directions, Headings, directions_of};
+use scan::directions::{Directions, Headings, direction_count};
 use scan::draft::Draft;
 use scan::plan::Plan;
 
 // Adds views at steps that were checked.
 #[tactic(auto, using(crate::proofs::Views::no_views, crate::proofs::Views::more_views, crate::proofs::Views::view_passes))]
 fn add_views(draft: &mut Draft, steps: &Numbers<'_>)
-    requires steps { first_no_step (directions_of (length (draft_of draft.old).directions)) (numbers_in steps.now.bytes.now) ≡ None }
+    requires steps { first_no_step (direction_count (length (draft_of draft.old).directions)) (numbers_in steps.now.bytes.now) ≡ None }
     requires room { length (draft_of draft.old).steps + length (numbers_in steps.now.bytes.now) ≤ 1024 }
     ensures { draft_of draft.new ≡ with_views (draft_of draft.old) (map unsigned_abs (numbers_in steps.now.bytes.now)) }
 {
@@ -42,7 +42,7 @@ fn read(cursor: &mut Cursor<'_>) -> Result<Plan, Fault>
     let axes = cursor.axes()?;
     let accepted = axes.accepted()?;
     let headings = cursor.directions()?;
-    let steps = cursor.steps(directions_of(headings.many()))?;
+    let steps = cursor.steps(direction_count(headings.count()))?;
     let directions = Directions {
         headings: &headings,
     };

@@ -1,6 +1,6 @@
 // The sections of a plan, read one after the other.
 ghost use Rattle.std.specs.Prelude.{◌≡◌, ◌^◌, ◌<◌, ◌≤◌, length, IfSome, OnOk};
-ghost use Rattle.scan.specs.Turning.{Turning};
+ghost use Rattle.scan.specs.ViewDirections.{AllAccepted};
 ghost use Rattle.scan.specs.Verdicts.{Verdict};
 ghost use Rattle.planfile.specs.Numbers.{numbers_in};
 ghost use Rattle.planfile.specs.Sections.{section_at, entry, end_of, start};
@@ -21,12 +21,13 @@ use scan::draft_checks::check_distances;
 use scan::plan::MOST_VIEWS;
 use scan::refusal::Refusal;
 
-// The first of some numbers that is no step, where there are so many directions.
+// The first of some numbers that is no step: below 0, or not below the number of directions.
 fn first_no_step(numbers: &Numbers<'_>, directions: usize) -> Option<usize>
     requires { directions ≤ 1024 }
     ensures value { result ≡ first_no_step directions (numbers_in numbers.now.bytes.now) }
     ensures within { IfSome result (λ i. i < length (numbers_in numbers.now.bytes.now)) }
 {
+    // `as`, since there are at most 1,024.
     let end = directions as i32;
     (0..numbers.len()).find(|&i| !(0..end).contains(&numbers.number(i)))
 }
@@ -66,12 +67,11 @@ impl<'a> Cursor<'a> {
     #[tactic(auto, using(std::proofs::lemmas::Result::err_from_is_err_and), unfolding(crate::specs::FileChecks::directions_section))]
     pub(crate) fn directions(&mut self) -> Result<Numbers<'a>, Fault>
         ensures answer { let b = self.old.bytes.now in let p = self.old.offset in
-            Verdict (directions_section b p) (λ headings. (numbers_in headings.bytes.now ≡ section_at b p) × Turning (headings_in (numbers_in headings.bytes.now))) result }
+            Verdict (directions_section b p) (λ headings. (numbers_in headings.bytes.now ≡ section_at b p) × AllAccepted (headings_in (numbers_in headings.bytes.now))) result }
         ensures bytes { self.new.bytes.now ≡ self.old.bytes.now }
         ensures moved { OnOk result (self.new.offset ≡ end_of self.old.bytes.now self.old.offset) }
     {
-        self.check_even()?;
-        let section = self.section(0, 2 * MOST_DIRECTIONS)?;
+        let section = self.pairs(2 * MOST_DIRECTIONS)?;
         match first_off_circle(&section.numbers) {
             None => Ok(section.numbers),
             Some(direction) => {

@@ -1,4 +1,4 @@
 pub mod Clearance
 pub mod Firsts
-pub mod Turned
+pub mod AcceptedLists
 pub mod Propers

@@ -5,7 +5,7 @@ use Rattle.geometry.specs.Circle.{is_accepted}
 use Rattle.geometry.specs.declared.heading.Heading.{Heading}
 use Rattle.scan.specs.Axes.{edge_of, widest}
 use Rattle.scan.specs.AxisChecks.{count_check}
-use Rattle.scan.specs.Turning.{heading_or_zero}
+use Rattle.scan.specs.ViewDirections.{heading_or_zero}
 use Rattle.scan.specs.Verdicts.{refused_where, first_where}
 use Rattle.scan.specs.declared.refusal.Refusal.{Refusal}
 use Rattle.scan.specs.declared.refusal.Refusal.TheVariants.{SourceDistance, PanelDistance, SourceTooNear, ColumnBeyond, StepOutOfRange, OffCircle, DraftFull}
@@ -44,7 +44,11 @@ first_off_circle hs = first_where (λ i. not (is_accepted (heading_or_zero hs i)
 abbrev pub directions_check : List Heading → Option Refusal
 directions_check hs = option_or (count_check (length hs) 1 1024) (option_map (λ i. OffCircle i (heading_or_zero hs i)) (first_off_circle hs))
 
--- Whether a number is no step, where there are so many directions: from 0 on, as many numbers are.
+-- Of a draft with a list of directions 6 for D, 6 for F, 7, 8 are checked, and then 2 and 11 of the list.
+abbrev pub listed_draft_check : ℤ → ℤ → List ℤ → List ℤ → List ℤ → List Heading → Option Refusal
+listed_draft_check source panel x y column hs = option_or (draft_check source panel x y column) (directions_check hs)
+
+-- Whether a number is no step: it is below 0, or not below the number of directions.
 abbrev pub no_step : ℕ → ℤ → Bool
 no_step directions step = int_lt step (pos 0) || int_le (pos directions) step
 

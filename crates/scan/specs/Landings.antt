@@ -20,7 +20,7 @@ use Rattle.scan.specs.Limits.{Fitted}
 use Rattle.scan.specs.Views.{slab_edges, cross_edges, slab_sum_of, column_sum_of, landing_of, landing, step_of, heading_of}
 use Rattle.scan.specs.ViewFacts.{SafeDivisions, LandsOpposite, MirrorImages, ViewFacts}
 use Rattle.scan.specs.Numbered.{edge_within, edge_rises}
-use Rattle.scan.specs.Turnings.{heading_accepted}
+use Rattle.scan.specs.Fits.{heading_accepted}
 use Rattle.geometry.proofs.Conditions.{Placed, Reached}
 use Rattle.geometry.specs.Steep.{Steep}
 use Rattle.geometry.proofs.NearestLaws.{nearest_is, nearest_odd}
@@ -180,7 +180,7 @@ pub lands : (scan : Scan) → Fitted scan → (v : ℕ) → ViewFacts scan v
 unfolding landing
 lands scan fitted v =
     let h = heading_of scan v in
-    let steep = steep_heading h (heading_accepted scan.directions fitted.turning (step_of scan v) (fitted.steps v)) in
+    let steep = steep_heading h (heading_accepted scan.directions fitted.accepted (step_of scan v) (fitted.steps v)) in
     let s = sound scan fitted (slab_axis h) (main_of h) (side_of h) steep in
     record {
       sound = s;

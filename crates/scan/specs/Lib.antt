@@ -1,5 +1,5 @@
 pub mod Axes
-pub mod Turning
+pub mod ViewDirections
 pub mod Scans
 pub mod Meanings
 pub mod Limits
@@ -12,5 +12,4 @@ pub mod AxisChecks
 pub mod DraftChecks
 pub mod Numbered
 pub mod Fits
-pub mod Turnings
 pub mod Landings

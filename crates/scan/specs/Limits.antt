@@ -2,7 +2,7 @@
 use Rattle.std.specs.Prelude.{ℕ, ◌*◌, ◌^◌, ◌<◌, ◌≤◌, List, length, ℤ, pos, ◌≤ℤ◌, slice_index_or, unsigned_abs}
 use Rattle.scan.specs.Axes.{Proper, widest}
 use Rattle.scan.specs.Scans.{Scan}
-use Rattle.scan.specs.Turning.{Turning, StepsKnown}
+use Rattle.scan.specs.ViewDirections.{AllAccepted, StepsKnown}
 
 -- The source is clear of the volume: twice the widest |edge| of x and y stays below D.
 abbrev pub SourceClear : ℤ → List ℤ → List ℤ → Type 0
@@ -25,6 +25,6 @@ pub record Fitted (scan : Scan) : Type 0 where
   pub row : Proper scan.row
   pub clear : SourceClear scan.source scan.x scan.y
   pub nearer : ColumnsNearer scan.panel scan.column
-  pub turning : Turning scan.directions
+  pub accepted : AllAccepted scan.directions
   pub steps : StepsKnown scan.directions scan.steps
   pub views : length scan.steps ≤ 1024

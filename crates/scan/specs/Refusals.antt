@@ -7,7 +7,7 @@ use Rattle.scan.specs.declared.refusal.Refusal.TheVariants.{Count, NotMultiple, 
 -- The number of each refusal, by which it is known to users.
 abbrev pub number : Refusal → ℕ
 number (Count found least most) = 2
-number (NotMultiple found unit) = 2
+number (NotMultiple found n) = 2
 number (NotRising edge before at) = 4
 number (OutOfRange edge at) = 5
 number (SourceDistance at) = 6
@@ -24,7 +24,7 @@ number (BoxBounds axis lower upper cells) = 24
 -- The place of each refusal: the number of the edge that is refused, 0 for D and 1 for F, and 0 for all else.
 abbrev pub place : Refusal → ℕ
 place (Count found least most) = 0
-place (NotMultiple found unit) = 0
+place (NotMultiple found n) = 0
 place (NotRising edge before at) = edge
 place (OutOfRange edge at) = edge
 place (SourceDistance at) = 0

@@ -17,40 +17,18 @@ pub record Scan : Type 0 where
   pub directions : List Heading
   pub steps : List ℕ
 
--- A scan that has no views yet, and the directions of the turn table.
+-- A scan that has the directions of the turn table, and no views yet.
 abbrev pub without_views : ℤ → ℤ → List ℤ → List ℤ → List ℤ → List ℤ → List ℤ → Scan
 without_views source panel x y z column row =
     record { source = source; panel = panel; x = x; y = y; z = z; column = column; row = row; directions = []; steps = [] }
 
 -- A scan with a list of directions in place of its own.
 abbrev pub with_directions : Scan → List Heading → Scan
-with_directions scan directions =
-    record {
-      source = scan.source;
-      panel = scan.panel;
-      x = scan.x;
-      y = scan.y;
-      z = scan.z;
-      column = scan.column;
-      row = scan.row;
-      directions = directions;
-      steps = scan.steps;
-    }
+with_directions scan directions = record scan { directions = directions }
 
 -- A scan with more views at its end, of these steps.
 abbrev pub with_views : Scan → List ℕ → Scan
-with_views scan steps =
-    record {
-      source = scan.source;
-      panel = scan.panel;
-      x = scan.x;
-      y = scan.y;
-      z = scan.z;
-      column = scan.column;
-      row = scan.row;
-      directions = scan.directions;
-      steps = scan.steps ++ steps;
-    }
+with_views scan steps = record scan { steps = scan.steps ++ steps }
 
 -- A scan with one more view at its end, of this step.
 abbrev pub with_view : Scan → ℕ → Scan

@@ -7,7 +7,7 @@ use Rattle.geometry.specs.declared.heading.Heading.{Heading}
 use Rattle.scan.specs.Axes.{cells_of, edge_of, low_of, high_of}
 use Rattle.scan.specs.Landing.{Landing, by_slabs, weight}
 use Rattle.scan.specs.Scans.{Scan}
-use Rattle.scan.specs.Turning.{heading_at}
+use Rattle.scan.specs.ViewDirections.{heading_at}
 
 -- The edges of the slab axis.
 abbrev pub slab_edges : Scan → SlabAxis → List ℤ

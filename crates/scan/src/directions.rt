@@ -1,7 +1,7 @@
 // Lists of directions.
 ghost use Rattle.std.specs.Prelude.{◌≡◌, ◌<◌, length, List, IfSome};
 ghost use Rattle.geometry.specs.declared.heading.Heading.{Heading};
-ghost use Rattle.scan.specs.Turning.{Turning, directions_of, heading_or_zero};
+ghost use Rattle.scan.specs.ViewDirections.{AllAccepted, direction_count, heading_or_zero};
 ghost use Rattle.scan.specs.Verdicts.{Verdict};
 ghost use Rattle.scan.specs.DraftChecks.{first_off_circle, directions_check};
 
@@ -13,12 +13,12 @@ use geometry::step::STEPS;
 /// How many directions a list may have.
 pub const MOST_DIRECTIONS: usize = 1024;
 
-/// Headings by number, of which nothing is known yet.
+/// Headings by number, of which nothing is known yet. A heading is a direction as its c and s.
 pub trait Headings {
     ghost headings: { Self → List Heading };
 
     /// How many there are.
-    fn many(&self) -> usize
+    fn count(&self) -> usize
         ensures { result ≡ length (headings self.now) };
 
     /// Heading i; past the last, one whose c and s are 0.
@@ -29,7 +29,7 @@ pub trait Headings {
 impl Headings for &[Heading] {
     ghost headings = { λ s. s.now };
 
-    fn many(&self) -> usize {
+    fn count(&self) -> usize {
         self.len()
     }
 
@@ -47,13 +47,13 @@ impl Headings for &[Heading] {
 #[derive(Drop)]
 pub struct Directions<'a, H: Headings> {
     pub headings: &'a H,
-    ghost turning: { Turning (H.Headings.headings headings.now) },
+    ghost accepted: { AllAccepted (H.Headings.headings headings.now) },
 }
 
-/// How many directions a step is one of, where a list has so many: the 64 of the turn table where the list is empty. Defined
-/// by `directions_of` of specs/Turning.
-pub fn directions_of(listed: usize) -> usize
-    ensures { result ≡ directions_of listed }
+/// How many directions there are, of which a step is one, where a list has so many: the 64 of the turn table where it is empty.
+/// Defined by `direction_count` of specs/ViewDirections.
+pub fn direction_count(listed: usize) -> usize
+    ensures { result ≡ direction_count listed }
 {
     match listed {
         0 => STEPS,
@@ -66,7 +66,7 @@ pub fn first_off_circle<H: Headings>(headings: &H) -> Option<usize>
     ensures value { result ≡ first_off_circle (H.headings headings.now) }
     ensures within { IfSome result (λ i. i < length (H.headings headings.now)) }
 {
-    (0..headings.many()).find(|&i| !headings.heading(i).is_accepted())
+    (0..headings.count()).find(|&i| !headings.heading(i).is_accepted())
 }
 
 impl<'a, H: Headings> Directions<'a, H> {
@@ -74,7 +74,7 @@ impl<'a, H: Headings> Directions<'a, H> {
     pub fn new(headings: &'a H) -> Result<Directions<'a, H>, Refusal>
         ensures { Verdict (directions_check (H.Headings.headings headings.now)) (λ d. H.Headings.headings d.headings.now ≡ H.Headings.headings headings.now) result }
     {
-        check_count(headings.many(), 1, MOST_DIRECTIONS)?;
+        check_count(headings.count(), 1, MOST_DIRECTIONS)?;
         if let Some(direction) = first_off_circle(headings) {
             let heading = headings.heading(direction);
             return Err(Refusal::OffCircle { direction, heading });

@@ -1,10 +1,9 @@
 // A scan to which views can still be added.
 ghost use Rattle.std.specs.Prelude.{◌≡◌, ◌≤◌, length, Ok, Err, unsigned_abs};
-ghost use Rattle.std.specs.Option.{option_or};
 ghost use Rattle.scan.specs.Verdicts.{Verdict};
-ghost use Rattle.scan.specs.DraftChecks.{draft_check, directions_check, view_check};
+ghost use Rattle.scan.specs.DraftChecks.{draft_check, listed_draft_check, view_check};
 ghost use Rattle.scan.specs.Scans.{without_views, with_directions, with_view};
-ghost use Rattle.scan.specs.Turning.{directions_of};
+ghost use Rattle.scan.specs.ViewDirections.{direction_count};
 ghost use Rattle.scan.specs.Limits.{Fitted};
 ghost use Rattle.scan.specs.Meanings.{draft_of, plan_of};
 
@@ -26,7 +25,7 @@ pub struct Draft {
 }
 
 impl<X: Axis, Y: Axis, C: Axis> Accepted<'_, X, Y, C> {
-    /// The draft with no views, and the directions of the turn table. It keeps the edges that the axes answer. Never refused.
+    /// The draft with the directions of the turn table, and no views yet. It keeps the edges that the axes answer. Never refused.
     /// Defined by `without_views` of specs/Scans.
     pub fn draft<Z: Axis, R: Axis>(self, z: &Z, row: &R) -> Draft
         ensures { draft_of result ≡ without_views self.entry.distances.source self.entry.distances.panel (X.Axis.edges self.entry.x.now) (Y.Axis.edges self.entry.y.now) (Z.Axis.edges z.now) (C.Axis.edges self.entry.column.now) (R.Axis.edges row.now) }
@@ -35,8 +34,8 @@ impl<X: Axis, Y: Axis, C: Axis> Accepted<'_, X, Y, C> {
         self.draft_with(z, row, Directions { headings: &none })
     }
 
-    /// The draft with no views, and a list of directions, or those of the turn table where the list is empty. It keeps the edges
-    /// that the axes answer, and the headings. Never refused. Defined by `with_directions` of specs/Scans.
+    /// The draft with a list of directions, or with those of the turn table where the list is empty, and no views yet. It keeps
+    /// the edges that the axes answer, and the headings. Never refused. Defined by `with_directions` of specs/Scans.
     pub fn draft_with<Z: Axis, R: Axis, H: Headings>(
         self,
         z: &Z,
@@ -66,7 +65,7 @@ fn headings_of<H: Headings>(headings: &H) -> ArrayVec<Heading, MOST_DIRECTIONS>
     ensures { result.items ≡ H.headings headings.now }
 {
     let mut copied = ArrayVec::new();
-    for i in 0..headings.many() {
+    for i in 0..headings.count() {
         copied.push(headings.heading(i));
     }
     copied
@@ -93,8 +92,8 @@ impl Draft {
     }
 
     /// A draft with no views whose steps are places in a list of 1 to 1,024 directions, counted from 0; else as `new`. Checks 6
-    /// for D, 6 for F, 7, 8, by `draft_check` of specs/DraftChecks, and then of the list 2, 11, by `directions_check`; what it
-    /// holds is `with_directions` of specs/Scans.
+    /// for D, 6 for F, 7, 8, and then 2, 11 of the list, by `listed_draft_check` of specs/DraftChecks; what it holds is
+    /// `with_directions` of specs/Scans.
     pub fn with_directions<X: Axis, Y: Axis, Z: Axis, C: Axis, R: Axis>(
         source: i32,
         panel: i32,
@@ -105,7 +104,7 @@ impl Draft {
         row: &R,
         directions: &[Heading],
     ) -> Result<Draft, Refusal>
-        ensures { Verdict (option_or (draft_check source panel (X.Axis.edges x.now) (Y.Axis.edges y.now) (C.Axis.edges column.now)) (directions_check directions.now))
+        ensures { Verdict (listed_draft_check source panel (X.Axis.edges x.now) (Y.Axis.edges y.now) (C.Axis.edges column.now) directions.now)
             (λ d. draft_of d ≡ with_directions (without_views source panel (X.Axis.edges x.now) (Y.Axis.edges y.now) (Z.Axis.edges z.now) (C.Axis.edges column.now) (R.Axis.edges row.now)) directions.now) result }
     {
         let accepted = Accepted::new(check_distances(source, panel)?, x, y, column)?;
@@ -116,11 +115,11 @@ impl Draft {
     /// Adds a view from a step, which is a place in the list of directions, or from 0 to 63 in the turn table, and says its
     /// number, counted from 0. Checks 9, 21, by `view_check` of specs/DraftChecks; a draft that refuses is as it was.
     pub fn add_view(&mut self, step: i32) -> Result<usize, Refusal>
-        ensures value { Verdict (view_check (length (draft_of self.old).steps) (directions_of (length (draft_of self.old).directions)) step) (λ n. n ≡ length (draft_of self.old).steps) result }
+        ensures value { Verdict (view_check (length (draft_of self.old).steps) (direction_count (length (draft_of self.old).directions)) step) (λ n. n ≡ length (draft_of self.old).steps) result }
         ensures after { draft_of self.new ≡ elim result [ Ok n ↦ with_view (draft_of self.old) (unsigned_abs step) | Err e ↦ draft_of self.old ] }
     {
         let views = self.layout.views();
-        let step = check_view(views, self.layout.directions(), step)?;
+        let step = check_view(views, self.layout.direction_count(), step)?;
         self.layout.steps.push(step);
         Ok(views)
     }

@@ -93,11 +93,12 @@ fn check_clearance<X: Axis, Y: Axis, C: Axis>(
     Ok(())
 }
 
-// Refuses a step that is none of so many directions (9), and then a view more than a draft may have (21).
+// Refuses a step that is below 0, or not below the number of directions (9), and then a view more than a draft may have (21).
 pub(crate) fn check_view(views: usize, directions: usize, step: i32) -> Result<u16, Refusal>
     requires { directions ≤ 1024 }
     ensures { Verdict (view_check views directions step) (λ s. (s ≡ unsigned_abs step) × (s < directions)) result }
 {
+    // Both casts by `as`: there are at most 1,024 directions.
     if !(0..directions as i32).contains(&step) {
         let step = i64::from(step);
         return Err(Refusal::StepOutOfRange { step, directions });

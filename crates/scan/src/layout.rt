@@ -2,7 +2,7 @@
 ghost use Rattle.std.specs.Prelude.{◌≤◌};
 ghost use Rattle.arrayvec.specs.ArrayVec.{array_vec_len};
 ghost use Rattle.scan.specs.Limits.{SourceClear, ColumnsNearer};
-ghost use Rattle.scan.specs.Turning.{Turning, StepsKnown};
+ghost use Rattle.scan.specs.ViewDirections.{AllAccepted, StepsKnown};
 
 use crate::directions::MOST_DIRECTIONS;
 use crate::listed::ListedAxis;
@@ -25,7 +25,7 @@ pub(crate) struct Layout {
     pub(crate) steps: ArrayVec<u16, MOST_VIEWS>,
     ghost clear: { SourceClear distances.source x.edges.items y.edges.items },
     ghost nearer: { ColumnsNearer distances.panel column.edges.items },
-    ghost turning: { Turning directions.items },
+    ghost accepted: { AllAccepted directions.items },
     ghost known: { StepsKnown directions.items steps.items },
     ghost few: { array_vec_len steps ≤ 1024 },
 }

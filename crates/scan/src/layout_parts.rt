@@ -2,10 +2,10 @@
 // Apart from layout.rt: what these methods promise is defined over `Layout`, and a file that declares a type with a ghost field may not import that.
 ghost use Rattle.std.specs.Prelude.{◌≡◌, ◌<◌, ◌≤◌, length};
 ghost use Rattle.scan.specs.Scans.{edges_along};
-ghost use Rattle.scan.specs.Turning.{directions_of, heading_at};
+ghost use Rattle.scan.specs.ViewDirections.{direction_count, heading_at};
 ghost use Rattle.scan.specs.Meanings.{scan_of};
 
-use crate::directions::directions_of;
+use crate::directions::direction_count;
 use crate::layout::Layout;
 use crate::listed::ListedAxis;
 use crate::scan_axis::ScanAxis;
@@ -34,22 +34,22 @@ impl Layout {
         self.steps.len()
     }
 
-    // The number of directions of which each step is one.
-    pub(crate) fn directions(&self) -> usize
-        ensures value { result ≡ directions_of (length (scan_of self.now).directions) }
+    // The number of directions, of which each step is one.
+    pub(crate) fn direction_count(&self) -> usize
+        ensures value { result ≡ direction_count (length (scan_of self.now).directions) }
         ensures most { result ≤ 1024 }
     {
-        directions_of(self.directions.len())
+        direction_count(self.directions.len())
     }
 
     // The heading of a step.
     pub(crate) fn heading(&self, step: u16) -> Heading
-        requires { step < directions_of (length (scan_of self.now).directions) }
+        requires { step < direction_count (length (scan_of self.now).directions) }
         ensures { result ≡ heading_at (scan_of self.now).directions step }
     {
         if self.directions.is_empty() {
             heading(Step {
-                // `as`, since the steps of the turn table are below 64.
+                // `as`, since without a list there are 64 steps.
                 number: step as u8,
             })
         } else {

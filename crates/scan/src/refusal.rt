@@ -27,10 +27,10 @@ pub enum Refusal {
         least: usize,
         most: usize,
     },
-    /// A count lies within its limits, but is no multiple of the unit, so many numbers that go together.
+    /// A count within its limits is no multiple of `of`, how many numbers go together.
     NotMultiple {
         found: usize,
-        unit: usize,
+        of: usize,
     },
     /// An edge does not rise above its neighbour before it.
     NotRising {
@@ -63,12 +63,12 @@ pub enum Refusal {
         at: i64,
         panel: i64,
     },
-    /// A step is none of so many directions, which are numbered from 0.
+    /// A step is below 0, or not below the number of directions.
     StepOutOfRange {
         step: i64,
         directions: usize,
     },
-    /// c² + s² of a direction differs from 2^28 by more than 32,768.
+    /// A direction of a list is not accepted: its c² + s² is more than 32,768 off 2^28.
     OffCircle {
         direction: usize,
         heading: Heading,

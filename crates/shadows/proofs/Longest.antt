@@ -5,10 +5,10 @@ use Rattle.std.proofs.lemmas.List.{length-map}
 use Rattle.scan.specs.Axes.{cells_of}
 use Rattle.scan.specs.Scans.{voxels_of, places_of}
 use Rattle.planfile.specs.Sections.{place_of, section_at, end_of, start}
-use Rattle.planfile.specs.FileChecks.{section_check, even_check, distances_section, axis_section, directions_section, directions_in, steps_section, clearance, axes_check, plan_check}
+use Rattle.planfile.specs.FileChecks.{section_check, distances_section, axis_section, directions_section, direction_count_in, steps_section, clearance, axes_check, plan_check}
 use Rattle.planfile.specs.Plans.{scan_in}
 use Rattle.planfile.proofs.Nones.{first_nothing, second_nothing}
-use Rattle.planfile.proofs.SectionChecks.{section_known}
+use Rattle.planfile.proofs.SectionChecks.{section_known, pairs_known}
 use Rattle.planfile.proofs.SectionFacts.{section_count}
 use Rattle.shadows.proofs.Most.{axes_most, views_most}
 
@@ -60,7 +60,7 @@ axes_counted bytes none =
 -- there are at most 1,024 directions, of two numbers each
 directions_counted : (bytes : List ℕ) → directions_section bytes (start bytes 6) ≡ None → Counted bytes 6 0 2048
 unfolding directions_section
-directions_counted bytes none = counted bytes 6 0 2048 (first_nothing _ _ (second_nothing (even_check bytes (start bytes 6)) _ none))
+directions_counted bytes none = counted bytes 6 0 2048 (pairs_known bytes (start bytes 6) 2048 (first_nothing _ _ none)).0
 
 -- there are at most 1,024 steps
 steps_counted : (bytes : List ℕ) (directions : ℕ) → steps_section bytes (start bytes 7) directions ≡ None → Counted bytes 7 0 1024
@@ -88,4 +88,4 @@ pub longest_end : (bytes : List ℕ) → plan_check bytes ≡ None → voxels_of
 unfolding plan_check
 longest_end bytes none =
     let on = second_nothing (clearance bytes) _ (second_nothing (axes_check bytes) _ none) in
-    counted_end bytes (axes_counted bytes (first_nothing _ _ none)) (directions_counted bytes (first_nothing _ _ on)) (steps_counted bytes (directions_in bytes) (second_nothing _ _ on))
+    counted_end bytes (axes_counted bytes (first_nothing _ _ none)) (directions_counted bytes (first_nothing _ _ on)) (steps_counted bytes (direction_count_in bytes) (second_nothing _ _ on))

@@ -1,14 +1,14 @@
 use Rattle.std.specs.Prelude.{◌≡◌, ◌<◌, ◌≤◌, ◌*◌, None, length}
 use Rattle.std.proofs.Common.{arith, sym, ap}
 use Rattle.scan.specs.DraftChecks.{first_off_circle}
-use Rattle.scan.proofs.Turned.{all_accepted}
+use Rattle.scan.proofs.AcceptedLists.{all_accepted}
 use Rattle.planfile.specs.Numbers.{numbers_in}
 use Rattle.planfile.specs.Sections.{place_of, section_at, end_of}
 use Rattle.planfile.specs.Pairs.{headings_in}
 use Rattle.planfile.specs.FileChecks.{directions_section}
 use Rattle.planfile.proofs.Nones.{none_or, none_map}
 use Rattle.planfile.proofs.SectionFacts.{section_count}
-use Rattle.planfile.proofs.SectionChecks.{section_known}
+use Rattle.planfile.proofs.SectionChecks.{section_known, pairs_known}
 use Rattle.planfile.proofs.PairFacts.{headings_many}
 use Rattle.planfile.proofs.Named.{placed_within}
 use Rattle.planfile.proofs.cursor.Cursor.directions.Goals as goal
@@ -24,7 +24,7 @@ pub overflow_mul-direction : goal.overflow_mul-direction
 overflow_mul-direction c =
     let bytes = c.args.self.now.bytes.now in
     let p = c.args.self.now.offset in
-    let known = section_known bytes p 0 2048 c.in_ok-section.ensures.answer.0 in
+    let known = section_known bytes p 0 2048 (pairs_known bytes p 2048 c.in_ok-section.ensures.answer.0).0 in
     omega (arith, named (goal.at.overflow_mul-direction c).In-Some, section_count bytes p, known.1)
 
 pub refused_number-requires : goal.refused_number-requires
@@ -43,7 +43,7 @@ returns-in-None-clause-answer c =
     let p = c.args.self.now.offset in
     let section = c.in_ok-section.ensures.answer in
     let headings = headings_in (numbers_in c.in_ok-section.section.numbers.bytes.now) in
-    let known = section_known bytes p 0 2048 section.0 in
+    let known = section_known bytes p 0 2048 (pairs_known bytes p 2048 section.0).0 in
     let none : first_off_circle headings ≡ None = sym c.in-None.ensures.value in
     let few : length headings ≤ 1024 = omega (arith, headings_many (numbers_in c.in_ok-section.section.numbers.bytes.now), ap length section.1.1, section_count bytes p, known.1) in
-    (none_or c.in_ok-check_even.ensures.0 (none_or section.0 (none_map _ (rw section.1.1 at none))), (section.1.1, all_accepted headings few none))
+    (none_or section.0 (none_map _ (rw section.1.1 at none)), (section.1.1, all_accepted headings few none))

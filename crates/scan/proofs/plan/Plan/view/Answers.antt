@@ -3,13 +3,12 @@ use Rattle.std.proofs.Common.{ap, ◌∙◌, arith}
 use Rattle.std.proofs.lemmas.Grind.{get_or_default_zero}
 use Rattle.geometry.specs.Circle.{is_accepted}
 use Rattle.geometry.specs.Directions.{slab_axis, main_of, side_of}
-use Rattle.scan.specs.Turning.{directions_of, heading_at}
+use Rattle.scan.specs.ViewDirections.{direction_count, heading_at}
 use Rattle.scan.specs.Views.{heading_of, step_of, landing}
 use Rattle.scan.specs.Meanings.{plan_of}
-use Rattle.scan.specs.Fits.{fitted, landing_same}
+use Rattle.scan.specs.Fits.{fitted, heading_accepted, landing_same}
 use Rattle.scan.specs.Landings.{lands}
-use Rattle.scan.specs.Turnings.{heading_accepted}
-use Rattle.scan.proofs.Turned.{has_direction}
+use Rattle.scan.proofs.AcceptedLists.{has_direction}
 use Rattle.scan.proofs.plan.Plan.view.Goals as goal
 use Rattle.scan.proofs.plan.Plan.view.Goals.{In_ok-step}
 
@@ -23,7 +22,7 @@ step_is c =
     let step = c.in_ok-step.field-0.now in
     c.in_ok-step.ensures.lookup.1 ∙ ap (λ items. slice_index_or items c.args.view step) c.deref.ensures.0 ∙ get_or_default_zero steps c.args.view step (here c)
 
-known : (c : In_ok-step) → c.in_ok-step.field-0.now < directions_of (length c.args.self.now.layout.directions.items)
+known : (c : In_ok-step) → c.in_ok-step.field-0.now < direction_count (length c.args.self.now.layout.directions.items)
 known c = rw (step_is c) (c.args.self.now.layout.known c.args.view)
 
 pub heading-heading-requires : goal.heading-heading-requires
@@ -32,7 +31,7 @@ heading-heading-requires c = known (goal.at.heading-heading-requires c).In_ok-st
 pub unwrap-requires : goal.unwrap-requires
 unwrap-requires c =
     let layout = c.args.self.now.layout in
-    let accepted = heading_accepted layout.directions.items layout.turning c.in_ok-step.field-0.now (known (goal.at.unwrap-requires c).In_ok-step) in
+    let accepted = heading_accepted layout.directions.items layout.accepted c.in_ok-step.field-0.now (known (goal.at.unwrap-requires c).In_ok-step) in
     has_direction c.heading-heading.result c.direction.result (ap is_accepted c.heading-heading.ensures ∙ accepted) c.direction.ensures
 
 pub returns : goal.returns

@@ -8,10 +8,10 @@ use Rattle.geometry.specs.Directions.{DirectionOf}
 use Rattle.geometry.specs.declared.direction.Direction.{Direction}
 use Rattle.geometry.specs.declared.heading.Heading.{Heading}
 use Rattle.scan.specs.DraftChecks.{first_off_circle}
-use Rattle.scan.specs.Turning.{heading_or_zero, Turning}
+use Rattle.scan.specs.ViewDirections.{heading_or_zero, AllAccepted}
 use Rattle.scan.proofs.Firsts.{first_none}
 
-pub all_accepted : (hs : List Heading) → length hs ≤ 1024 → first_off_circle hs ≡ None → Turning hs
+pub all_accepted : (hs : List Heading) → length hs ≤ 1024 → first_off_circle hs ≡ None → AllAccepted hs
 all_accepted hs few none = record {
   most = few;
   accepted = λ i l. not-false _ (first_none (λ k. not (is_accepted (heading_or_zero hs k))) (length hs) none i l);

@@ -8,21 +8,21 @@ use Rattle.geometry.specs.declared.heading.Heading.{Heading}
 abbrev pub heading_or_zero : List Heading → ℕ → Heading
 heading_or_zero hs i = slice_index_or hs i (record { c = pos 0; s = pos 0 })
 
--- How many directions a step is one of, where the list has so many: as many, or the 64 of the turn table where it is empty.
-abbrev pub directions_of : ℕ → ℕ
-directions_of zero = 64
-directions_of (suc n) = suc n
+-- How many directions there are, of which a step is one, where the list has n: as many, or the 64 of the turn table where it is empty.
+abbrev pub direction_count : ℕ → ℕ
+direction_count zero = 64
+direction_count (suc n) = suc n
 
--- The heading of step q: the one at place q of the list, or that of the turn table; past the end of the list, the first.
+-- The heading of step q: the one at place q of the list, or that of the turn table where the list is empty.
 abbrev pub heading_at : List Heading → ℕ → Heading
 heading_at [] q = turn q
-heading_at (h ∷ hs) q = slice_index_or (h ∷ hs) q h
+heading_at (h ∷ hs) q = heading_or_zero (h ∷ hs) q
 
 -- What every list of directions keeps: there are at most 1,024, and each is accepted.
-pub record Turning (hs : List Heading) : Type 0 where
+pub record AllAccepted (hs : List Heading) : Type 0 where
   pub most : length hs ≤ 1024
   pub accepted : (i : ℕ) → i < length hs → is_accepted (heading_or_zero hs i) ≡ true
 
 -- Each step is one of the directions.
 abbrev pub StepsKnown : List Heading → List ℕ → Type 0
-StepsKnown hs steps = (v : ℕ) → slice_index steps v < directions_of (length hs)
+StepsKnown hs steps = (v : ℕ) → slice_index steps v < direction_count (length hs)
