@@ -1,5 +1,5 @@
 -- What holds of a list of directions whose checks find nothing.
-use Rattle.std.specs.Prelude.{◌≡◌, ℕ, ◌<◌, ◌≤◌, Bool, not, true, false, List, length, None, Option, Some, MatchOption}
+use Rattle.std.specs.Prelude.{◌≡◌, ◌≤◌, not, true, false, List, length, None, Option, Some}
 use Rattle.std.specs.Option.{IsSome}
 use Rattle.std.proofs.Common.{refl, sym, ◌∙◌}
 use Rattle.std.proofs.lemmas.Bool.{not-false}

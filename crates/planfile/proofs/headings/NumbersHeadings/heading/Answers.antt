@@ -1,8 +1,7 @@
-use Rattle.std.specs.Prelude.{◌≡◌, ◌<◌, ◌/◌, ◌≤◌, length}
+use Rattle.std.specs.Prelude.{◌<◌, ◌/◌, length}
 use Rattle.std.proofs.Common.{arith, sym, ap₂, ◌∙◌, rules, w32, SFits}
 use Rattle.std.proofs.lemmas.Int.{to_z-of_z}
 use Rattle.std.proofs.lemmas.List.{get_or_past}
-use Rattle.geometry.specs.declared.heading.Heading.{Heading}
 use Rattle.planfile.specs.Numbers.{numbers_in}
 use Rattle.planfile.specs.Pairs.{headings_in}
 use Rattle.planfile.proofs.PairFacts.{headings_many, heading_is}
