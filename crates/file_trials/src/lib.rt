@@ -4,6 +4,8 @@
 #[cfg(test)]
 mod axes;
 #[cfg(test)]
+mod directions;
+#[cfg(test)]
 mod example;
 #[cfg(test)]
 mod plans;

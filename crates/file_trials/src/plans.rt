@@ -64,11 +64,11 @@ fn what_follows_is_handed_back(rt: HostRuntime) -> Result<(), Fail> {
 #[test]
 fn the_first_fault_is_told(rt: HostRuntime) -> Result<(), Fail> {
     assert_eq!(rt; refused(&[]), Some((1, 0)));
-    assert_eq!(rt; refused(&PLAN[..95]), Some((1, 92)));
+    assert_eq!(rt; refused(&PLAN[..99]), Some((1, 96)));
     let mut bytes = PLAN;
     // The last step becomes 64, and then besides the last edge of x equals the one before it.
-    bytes[92] = 64;
-    assert_eq!(rt; refused(&bytes), Some((9, 92)));
+    bytes[96] = 64;
+    assert_eq!(rt; refused(&bytes), Some((9, 96)));
     bytes[24] = 0;
     assert_eq!(rt; refused(&bytes), Some((4, 24)));
     Ok(())

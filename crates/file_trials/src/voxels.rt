@@ -38,11 +38,11 @@ fn values_are_read_from_a_place_on(rt: HostRuntime) -> Result<(), Fail> {
     bytes.extend_from_slice(&VOXELS)?;
     let (plan, _rest) = read_plan(&bytes)?;
     let mut volume = [Count::from(7); 4];
-    assert_eq!(rt; read_values_from(&plan, &bytes, 96, &mut volume), Ok(()));
+    assert_eq!(rt; read_values_from(&plan, &bytes, 100, &mut volume), Ok(()));
     assert_eq!(rt; volume.map(i64::from), VALUES);
     assert_eq!(rt;
-        told(read_values_from(&plan, &bytes[..113], 96, &mut volume)),
-        Some((1, 112))
+        told(read_values_from(&plan, &bytes[..117], 100, &mut volume)),
+        Some((1, 116))
     );
     Ok(())
 }

@@ -60,3 +60,53 @@ impl Heading {
         }
     }
 }
+
+#[cfg(test)]
+mod tests {
+    use super::*;
+
+    fn heading((c, s): (i32, i32)) -> Heading {
+        Heading { c, s }
+    }
+
+    const LEAST: i32 = -2_147_483_648;
+
+    // The nearest sums of squares on both sides of both limits: 2^28 - 32,767, + 32,762, - 32,771 and + 32,769.
+    #[test]
+    fn headings_near_the_circle_are_accepted(rt: HostRuntime) {
+        for pair in [(0, 16_383), (8187, 14_193), (16_384, -181)] {
+            assert!(rt; heading(pair).is_accepted(), "{pair:?}");
+        }
+        let off = [
+            (181, 16_382),
+            (0, 16_385),
+            (16_385, 0),
+            (278_528, 0),
+            (0, 0),
+            (LEAST, LEAST),
+        ];
+        for pair in off {
+            assert!(rt; !heading(pair).is_accepted(), "{pair:?}");
+            assert_eq!(rt; heading(pair).direction(), None, "{pair:?}");
+        }
+    }
+
+    #[test]
+    fn slabs_lie_along_y_at_ties(rt: HostRuntime) {
+        let cases = [
+            ((11_585, 11_585), SlabAxis::Y, 11_585, 11_585),
+            ((-11_585, 11_585), SlabAxis::Y, -11_585, 11_585),
+            ((-11_585, -11_585), SlabAxis::Y, -11_585, -11_585),
+            ((11_585, -11_585), SlabAxis::Y, 11_585, -11_585),
+            ((11_586, 11_584), SlabAxis::Y, 11_586, 11_584),
+            ((11_584, 11_586), SlabAxis::X, 11_586, -11_584),
+            ((181, -16_384), SlabAxis::X, -16_384, -181),
+        ];
+        for (pair, slabs, a, b) in cases {
+            let told = heading(pair)
+                .direction()
+                .map(|direction| (direction.slabs, direction.a, direction.b));
+            assert_eq!(rt; told, Some((slabs, a, b)), "{pair:?}");
+        }
+    }
+}

@@ -2,6 +2,8 @@
 #![tactic(auto)]
 
 #[cfg(test)]
+mod directions;
+#[cfg(test)]
 mod outcomes;
 #[cfg(test)]
 mod plans;

@@ -6,3 +6,9 @@ pub(crate) fn refused<T: Drop>(made: Result<T, Refusal>) -> Option<(u8, usize)> 
     let refusal = made.err()?;
     Some((refusal.number(), refusal.place()))
 }
+
+// The number and the place of a refusal, beside what is known of it.
+pub(crate) fn told<T: Drop>(made: Result<T, Refusal>) -> Option<(u8, usize, Refusal)> {
+    let refusal = made.err()?;
+    Some((refusal.number(), refusal.place(), refusal))
+}

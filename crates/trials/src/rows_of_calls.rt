@@ -1,4 +1,5 @@
 // The calls between sweeps, rows of calls, and their mirrored rows. The figures are those of tools/oracle.txt.
+use crate::outcomes::told;
 use crate::small_plans::{beside, pair, small, uneven};
 use calls::call::Call;
 use calls::mirror::mirror;
@@ -19,14 +20,14 @@ use values::reach::Reach;
 use values::value::Value;
 
 // What tests begin from on the uneven plan.
-const VOLUME: [i64; 12] = [4, 2, 6, 8, 9, 14, 12, 18, 16, 20, 26, 22];
+pub(crate) const VOLUME: [i64; 12] = [4, 2, 6, 8, 9, 14, 12, 18, 16, 20, 26, 22];
 
-const MEASURED: [i64; 12] = [100, 102, 104, 106, 108, 110, 112, 114, 116, 118, 120, 122];
+pub(crate) const MEASURED: [i64; 12] = [100, 102, 104, 106, 108, 110, 112, 114, 116, 118, 120, 122];
 
-const WORKING: [i64; 12] = [-30, -28, -26, -24, -22, -20, -18, -16, -14, -12, -10, -8];
+pub(crate) const WORKING: [i64; 12] = [-30, -28, -26, -24, -22, -20, -18, -16, -14, -12, -10, -8];
 
 #[derive(PartialEq, Debug, Drop)]
-struct Stores<V: Value> {
+pub(crate) struct Stores<V: Value> {
     volume: Vec<V>,
     measured: Vec<V>,
     working: Vec<V>,
@@ -43,7 +44,7 @@ fn mapped<T: Copy, U: Drop, F: Fn(T) -> U>(
     items.iter().map(|&item| f(item)).collect(heap)
 }
 
-fn stores_of<V: Value, F: Fn(i64) -> V>(
+pub(crate) fn stores_of<V: Value, F: Fn(i64) -> V>(
     heap: Global,
     value: F,
     numbers: [&[i64]; 3],
@@ -58,7 +59,7 @@ fn stores_of<V: Value, F: Fn(i64) -> V>(
     })
 }
 
-fn outcome<V: Value>(
+pub(crate) fn outcome<V: Value>(
     plan: &Plan,
     row: &[Call<V>],
     mut stores: Stores<V>,
@@ -89,14 +90,14 @@ fn inner<V: Value>(a: &Stores<V>, b: &Stores<V>) -> V {
 // The inner products of a row's outcome from the start with the test stores, and of the start with the mirrored row's
 // outcome from those; and how many calls either row refused.
 #[derive(Clone, Copy, PartialEq, Debug)]
-struct Sides<V> {
+pub(crate) struct Sides<V> {
     row: V,
     mirrored: V,
     refused: (usize, usize),
 }
 
 // Both sides the same.
-fn alike<V: Value>(side: V, refused: usize) -> Sides<V> {
+pub(crate) fn alike<V: Value>(side: V, refused: usize) -> Sides<V> {
     Sides {
         row: side,
         mirrored: side,
@@ -195,12 +196,6 @@ fn voxels_outside_a_box_become_zero(rt: HostRuntime) -> Result<(), Fail> {
     Ok(())
 }
 
-// The number and the place of a refusal, beside what is known of it.
-fn told<T: Drop>(made: Result<T, Refusal>) -> Option<(u8, usize, Refusal)> {
-    let refusal = made.err()?;
-    Some((refusal.number(), refusal.place(), refusal))
-}
-
 // What is told of a store that has not the 12 places of the uneven plan's stores.
 fn other_length(store: Store, found: usize) -> Option<(u8, usize, Refusal)> {
     let wanted = 12;
@@ -275,7 +270,10 @@ fn refused_boxes_leave_the_volume(rt: HostRuntime) -> Result<(), Fail> {
 }
 
 // The six calls, each on what the others leave.
-fn six<V: Value, F: Fn(i64) -> V>(heap: Global, value: F) -> Result<Vec<Call<V>>, AllocError>
+pub(crate) fn six<V: Value, F: Fn(i64) -> V>(
+    heap: Global,
+    value: F,
+) -> Result<Vec<Call<V>>, AllocError>
     requires { F.IsAlwaysCallable value }
 {
     let view = 1;
@@ -366,7 +364,7 @@ fn refused_calls_of_a_row_tell_why_and_leave_the_stores(rt: HostRuntime) -> Resu
 }
 
 // A row, and after each of its calls two that the uneven plan refuses, for their view and for their box.
-fn with_refused<V: Value>(
+pub(crate) fn with_refused<V: Value>(
     heap: Global,
     row: &[Call<V>],
     factor: V,
@@ -430,14 +428,14 @@ fn a_row_of_all_calls_goes_on_past_refused_ones(rt: HostRuntime) -> Result<(), F
 }
 
 // Both sides for the first so many calls of a row of all six with refused ones among them.
-fn sides_of_first<V: Value, F: Fn(i64) -> V>(
+pub(crate) fn sides_of_first<V: Value, F: Fn(i64) -> V>(
     heap: Global,
+    plan: &Plan,
     calls: usize,
     value: F,
 ) -> Result<Sides<V>, Fail>
     requires { F.IsAlwaysCallable value }
 {
-    let plan = uneven()?;
     let mut row = with_refused(heap, &six(heap, &value)?, value(11))?;
     row.truncate(calls);
     let start: [&[i64]; 3] = [&VOLUME, &MEASURED, &WORKING];
@@ -446,14 +444,14 @@ fn sides_of_first<V: Value, F: Fn(i64) -> V>(
         &[-12, -10, -8, -6, -4, -2, 0, 2, 4, 6, 8, 10],
         &[4, 6, -2, 8, 2, 10, -6, 2, 12, -4, 3, 8],
     ];
-    both_sides(heap, &plan, &mut row, &value, start, test)
+    both_sides(heap, plan, &mut row, &value, start, test)
 }
 
 #[test]
 fn mirrored_rows_of_counts(rt: HostRuntime) -> Result<(), Fail> {
     for (calls, refused, figure) in [(0, 0, -1352), (1, 0, -10172), (18, 12, -27644782060)] {
         let sides = alike(Count::from(figure), refused);
-        let both = sides_of_first(rt.alloc(), calls, Count::from)?;
+        let both = sides_of_first(rt.alloc(), &uneven()?, calls, Count::from)?;
         assert_eq!(rt; both, sides, "{calls} calls");
     }
     Ok(())
@@ -468,7 +466,7 @@ fn mirrored_rows_of_pairs(rt: HostRuntime) -> Result<(), Fail> {
     ];
     for (calls, refused, side) in cases {
         let sides = alike(side, refused);
-        let both = sides_of_first(rt.alloc(), calls, beside)?;
+        let both = sides_of_first(rt.alloc(), &uneven()?, calls, beside)?;
         assert_eq!(rt; both, sides, "{calls} calls");
     }
     Ok(())
@@ -482,7 +480,7 @@ fn mirrored_rows_of_reaches(rt: HostRuntime) -> Result<(), Fail> {
         let odd = |number: i64| Reach {
             yes: number & 1 == 1,
         };
-        let both = sides_of_first(rt.alloc(), calls, odd)?;
+        let both = sides_of_first(rt.alloc(), &uneven()?, calls, odd)?;
         assert_eq!(rt; both, sides, "{calls} calls");
     }
     Ok(())

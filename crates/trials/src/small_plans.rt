@@ -8,7 +8,7 @@ use values::count::Count;
 use values::pair::Pair;
 
 // The plan of a draft that is seen from some steps.
-fn viewed(mut draft: Draft, steps: &[i32]) -> Result<Plan, Refusal> {
+pub(crate) fn viewed(mut draft: Draft, steps: &[i32]) -> Result<Plan, Refusal> {
     for &step in steps {
         draft.add_view(step)?;
     }

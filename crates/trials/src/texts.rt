@@ -1,5 +1,6 @@
 // What is printed of the kinds of value, of refusals and of numbers that no step has, and how counts convert.
 use crate::small_plans::pair;
+use geometry::heading::Heading;
 use geometry::no_step::NoStep;
 use scan::refusal::{Refusal, Store};
 use scan::scan_axis::ScanAxis;
@@ -89,6 +90,10 @@ fn texts_of_refused_axes(rt: HostRuntime) -> Result<(), Fail> {
             "refused by 2 at place 0",
         ),
         (
+            Refusal::NotMultiple { found: 3, unit: 2 },
+            "refused by 2 at place 0",
+        ),
+        (
             Refusal::NotRising {
                 edge: 12,
                 before: 3,
@@ -134,6 +139,13 @@ fn texts_of_refused_drafts(rt: HostRuntime) -> Result<(), Fail> {
             },
             "refused by 8 at place 2",
         ),
+        (
+            Refusal::OffCircle {
+                direction: 5,
+                heading: Heading { c: 16_385, s: 0 },
+            },
+            "refused by 11 at place 0",
+        ),
     ];
     assert!(rt; shown_as(rt.alloc(), &cases)?);
     Ok(())
@@ -143,7 +155,10 @@ fn texts_of_refused_drafts(rt: HostRuntime) -> Result<(), Fail> {
 fn texts_of_refused_calls(rt: HostRuntime) -> Result<(), Fail> {
     let cases = [
         (
-            Refusal::StepOutOfRange { step: 64 },
+            Refusal::StepOutOfRange {
+                step: 64,
+                directions: 64,
+            },
             "refused by 9 at place 0",
         ),
         (
