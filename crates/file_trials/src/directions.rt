@@ -63,18 +63,18 @@ fn a_list_is_read_and_what_follows_is_handed_back(rt: HostRuntime) -> Result<(),
 
 #[test]
 fn directions_are_two_numbers_each_and_1024_at_most(rt: HostRuntime) -> Result<(), Fail> {
-    let odd = [1, 2047, 2049].map(|found| Refusal::NotMultiple { found, unit: 2 });
-    let beyond = Refusal::Count {
-        found: 2050,
+    let odd = [1, 2047].map(|found| Refusal::NotMultiple { found, of: 2 });
+    let beyond = [2049, 2050].map(|found| Refusal::Count {
+        found,
         least: 0,
         most: 2048,
-    };
-    // 1, 2,047, 2,049 and 2,050, and no numbers.
+    });
+    // 1, 2,047, 2,049 and 2,050, and no numbers: a count beyond the limit is told before an odd one.
     let cases = [
         ([1, 0, 0, 0], odd[0]),
         ([255, 7, 0, 0], odd[1]),
-        ([1, 8, 0, 0], odd[2]),
-        ([2, 8, 0, 0], beyond),
+        ([1, 8, 0, 0], beyond[0]),
+        ([2, 8, 0, 0], beyond[1]),
     ];
     for (count, refusal) in cases {
         let made = told(rt.alloc(), [&PLAN[..START], &count, &[]])?;

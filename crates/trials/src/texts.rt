@@ -90,7 +90,7 @@ fn texts_of_refused_axes(rt: HostRuntime) -> Result<(), Fail> {
             "refused by 2 at place 0",
         ),
         (
-            Refusal::NotMultiple { found: 3, unit: 2 },
+            Refusal::NotMultiple { found: 3, of: 2 },
             "refused by 2 at place 0",
         ),
         (
